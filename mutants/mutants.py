@@ -1,5 +1,6 @@
 """The mutants of this folder: which there are, what each breaks, and what it replaces."""
 import pathlib
+import subprocess
 import sys
 
 HERE = pathlib.Path(__file__).resolve().parent
@@ -45,6 +46,27 @@ def read(crate, text):
 
 def files(crate):
     return sorted((HERE / crate).glob("**/*.mutants"))
+
+
+def ran(main, about):
+    """Calls a script's main with the words of the command line, and answers its exit status. With --help it prints what
+    the script is about instead. What can't be done is told in a sentence.
+    """
+    words = sys.argv[1:]
+    if {"-h", "--help"} & {*words}:
+        print(about.strip())
+        return 0
+    for word in words:
+        if word.startswith("-"):
+            return f"{word} is no option: --help tells the usage"
+    try:
+        return main(words)
+    except OSError as fault:
+        if fault.filename is None:
+            raise
+        return f"{fault.filename}: {fault.strerror}"
+    except subprocess.CalledProcessError as fault:
+        return f"{fault.cmd[0]} ended with status {fault.returncode}"
 
 
 def wanted(names):

@@ -1,4 +1,4 @@
-"""Judges why nothing serves: whether what is told is what the index says, and whether nothing can meet all of it.
+"""Judges why there is no solution: whether what is written is what the index says, and whether nothing can meet it all.
 
 A version is a name and a number. A clause is a dict of versions, of which one has to be picked where it has true, or
 not to be picked where it has false.

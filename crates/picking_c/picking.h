@@ -1,4 +1,4 @@
-/* Picking versions by Nivolakku's search, whose picks are proved to serve. docs/C.md explains it.
+/* Picking versions by Nivolakku's search, whose picks are proved to be solutions. docs/C.md explains it.
  *
  * Link libpicking_c.a, and behind it the Rattle kit's c/liblibc_c.a, which calls malloc, realloc and free. */
 #ifndef NIVOLAKKU_PICKING_H
@@ -13,10 +13,10 @@ extern "C" {
 
 /* What became of an index: what nivolakku_pick returns. */
 enum {
-    /* Versions are picked, and they serve: the answer is a line "NAME:" and a line for each version. */
+    /* Versions are picked, and are a solution: the answer is a line "NAME:" and a line for each version. */
     NIVOLAKKU_PICKED = 0,
-    /* Nothing serves: the answer says so, below the line "NAME:". */
-    NIVOLAKKU_NONE_SERVES = 1,
+    /* There is no solution: the answer says so, below the line "NAME:". */
+    NIVOLAKKU_NO_SOLUTION = 1,
     /* The search gave up: the answer says why, or is empty where memory was refused even for it. */
     NIVOLAKKU_GAVE_UP = 2,
     /* A line isn't in the format, or the text has no index, or several: the answer is "line NUMBER unreadable". */
@@ -25,7 +25,7 @@ enum {
     NIVOLAKKU_TOO_SMALL = 4
 };
 
-/* Answers the index of a text, in so many steps at most.
+/* Answers the index of a text, in at most `steps` steps.
  *
  *   index, length    the text: any bytes
  *   steps            how far the search may go; a million is plenty

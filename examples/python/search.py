@@ -7,7 +7,7 @@ picks versions of the packages below, and prints a line for each. PROGRAM is the
 """
 import sys
 
-from clause_store import PROGRAM, ClauseStore
+from clause_store import PROGRAM, ClauseStore, Ended
 
 # What each version needs: ranges, from the first number to below the last one.
 INDEX = {
@@ -56,7 +56,7 @@ def encode(store, index, wanted, sets):
 
 
 def search(store):
-    """The variables that are picked; none where nothing serves. The root is at level 1, each choice one level above."""
+    """The variables that are picked; none if there is no solution. The root is at level 1, each decision one above."""
     choices = []
     store.ask(f"assign {ROOT} true 0 1")
     while True:
@@ -92,6 +92,11 @@ def assigned_true(store):
 
 
 def main():
+    if {"-h", "--help"} & {*sys.argv[1:]}:
+        print(__doc__.strip())
+        return
+    if len(sys.argv) > 2:
+        sys.exit("search.py takes a program at most: --help tells the usage")
     lines, sets = catalogue(INDEX, WANTED)
     with ClauseStore(lines, *sys.argv[1:2] or [PROGRAM]) as store:
         variables = encode(store, INDEX, WANTED, sets)
@@ -104,4 +109,9 @@ def main():
 
 
 if __name__ == "__main__":
-    main()
+    try:
+        main()
+    except Ended as fault:
+        sys.exit(str(fault))
+    except OSError as fault:
+        sys.exit(f"{fault.filename}: {fault.strerror}")

@@ -8,7 +8,7 @@ use Rattle.std.specs.Int.{bit_at}
 use Rattle.std.proofs.lemmas.Bool.Decides.{nat_tests}
 use Rattle.std.proofs.lemmas.Nat.Bits.{same_from_bits_below, bit_at-lt}
 use Rattle.std.specs.Cmp.{IsEquivalence}
-use Rattle.at_most_once.specs.AtMostOne.{Tracker, BitClause, Adds, has_bit, is_met, AtMostOne, CanBeMet}
+use Rattle.at_most_once.specs.AtMostOne.{Tracker, BitClause, Adds, has_bit, is_satisfied, AtMostOne, AreSatisfiable}
 use Rattle.at_most_once.proofs.Places.{At, here, there, at_within, at_one, contains_at, at_contained}
 use Rattle.at_most_once.proofs.GridLaws.{Grid, grid_from_met, met_from_grid}
 use Rattle.at_most_once.proofs.AddLaws.{Once, none_same, any_none, apart, one_place, has_enough}
@@ -112,8 +112,8 @@ module _ {V : Type 0} (same : V → V → Bool) (laws : IsEquivalence same) (t :
   choice-helper i b h n = spelled_helper same laws x i 0 t.helpers b h n (apart same laws adds).helpers_once ∙
       (let e : 0 + b ≡ b = omega arith in ap (has_bit i) e)
 
-  choice-meets : (i : ℕ) → ((j : ℕ) (v : V) → At t.variables j v → (x v ≡ false) ⊎ (j ≡ i)) → CanBeMet same is_met x t.helpers cs
-  choice-meets i only = (
+  choice-satisfies : (i : ℕ) → ((j : ℕ) (v : V) → At t.variables j v → (x v ≡ false) ⊎ (j ≡ i)) → AreSatisfiable same is_satisfied x t.helpers cs
+  choice-satisfies i only = (
     choice i,
     choice-other i,
     met_from_grid same (choice i) adds (λ j b v h m n.
@@ -123,11 +123,11 @@ module _ {V : Type 0} (same : V → V → Bool) (laws : IsEquivalence same) (t :
         ]),
   )
 
-  pub can_be_met : AtMostOne x t.variables → CanBeMet same is_met x t.helpers cs
+  pub can_be_met : AtMostOne x t.variables → AreSatisfiable same is_satisfied x t.helpers cs
   can_be_met one =
       elim (true_one x t.variables) [
-        | inl f ↦ choice-meets f.0 (λ j v m. decided j v m (x v) refl f.0 f.1 f.2 f.3)
-        | inr all_false ↦ choice-meets 0 (λ j v m. inl (all_false j v m))
+        | inl f ↦ choice-satisfies f.0 (λ j v m. decided j v m (x v) refl f.0 f.1 f.2 f.3)
+        | inr all_false ↦ choice-satisfies 0 (λ j v m. inl (all_false j v m))
       ]
     where
       decided : (j : ℕ) (v : V) → At t.variables j v → (b : Bool) → x v ≡ b → (i : ℕ) (w : V) → At t.variables i w → x w ≡ true → (x v ≡ false) ⊎ (j ≡ i)
@@ -136,7 +136,7 @@ module _ {V : Type 0} (same : V → V → Bool) (laws : IsEquivalence same) (t :
           inr (one_place same laws t.variables (apart same laws adds).tracked_once j i v m
           (subst (At t.variables i) (sym (one v w (contains_at m) (contains_at n) e p)) n))
 
-  pub at_most_one : CanBeMet same is_met x t.helpers cs → AtMostOne x t.variables
+  pub at_most_one : AreSatisfiable same is_satisfied x t.helpers cs → AtMostOne x t.variables
   at_most_one met v w c d p q =
       let others = no_helpers same laws t cs adds in
       let m = at_contained t.variables v c in

@@ -8,26 +8,26 @@ use Rattle.std.specs.Cmp.{IsEquivalence}
 use Rattle.std.specs.Map.{lookup, set_value}
 use Rattle.std.proofs.lemmas.Map.{lookup-set_value}
 use Rattle.std.proofs.lemmas.Option.{slice_get_read}
-use Rattle.id_storage.specs.KeptAnswers.{AreKept, place_of}
-use Rattle.id_storage.proofs.AnswerLemmas.{place_below, answer_earlier, answer_replaced, AreKept-replaced}
-use Rattle.at_most_once.specs.AtMostOne.{Tracker, Kept, HasRoom, KeepsRoom, empty, with_variable}
+use Rattle.id_storage.specs.StoredAnswers.{AreStored, place_of}
+use Rattle.id_storage.proofs.AnswerLemmas.{place_below, answer_earlier, answer_replaced, AreStored-replaced}
+use Rattle.at_most_once.specs.AtMostOne.{Tracker, TrackerState, HasRoom, KeepsRoom, empty, with_variable}
 use Rattle.at_most_once.specs.NameTrackers.{tracker_of, with_tracked, KeepsRoomFor, lacks_tracker}
 
 -- the tracker in what is found
-abbrev pub tracker_in : Option (Kept ℕ) → Tracker ℕ
+abbrev pub tracker_in : Option (TrackerState ℕ) → Tracker ℕ
 tracker_in found = unwrap_or (option_map (λ t. t.tracker) found) empty
 
 module _ {N : Type 0} (same : N → N → Bool) where
-  pub tracker_found : (kept : List (N × Kept ℕ)) (name : N) (found : Option (Kept ℕ)) → lookup (same name) kept ≡ found
+  pub tracker_found : (kept : List (N × TrackerState ℕ)) (name : N) (found : Option (TrackerState ℕ)) → lookup (same name) kept ≡ found
       → tracker_of same kept name ≡ tracker_in found
   unfolding tracker_of
   tracker_found kept name found is = ap tracker_in is
 
-  pub tracker_missing : (kept : List (N × Kept ℕ)) (name : N) → is_some (lookup (same name) kept) ≡ false → tracker_of same kept name ≡ empty
+  pub tracker_missing : (kept : List (N × TrackerState ℕ)) (name : N) → is_some (lookup (same name) kept) ≡ false → tracker_of same kept name ≡ empty
   unfolding tracker_of
   tracker_missing kept name missing = by (lookup (same name) kept) missing
     where
-      by : (found : Option (Kept ℕ)) → is_some found ≡ false → tracker_in found ≡ empty
+      by : (found : Option (TrackerState ℕ)) → is_some found ≡ false → tracker_in found ≡ empty
       by None e = refl
       by (Some t) e = absurd (true≢false e)
 
@@ -35,7 +35,7 @@ module _ {N : Type 0} (same : N → N → Bool) where
   unfolding tracker_of
   nothing_tracked = refl
 
-  found_at_end : (kept : List (N × Kept ℕ)) (name : N) (t : Kept ℕ) (other : N) → t.tracker ≡ empty
+  found_at_end : (kept : List (N × TrackerState ℕ)) (name : N) (t : TrackerState ℕ) (other : N) → t.tracker ≡ empty
       → tracker_in (lookup (same other) (kept ++ (name, t) ∷ [])) ≡ tracker_in (lookup (same other) kept)
   found_at_end [] name t other e =
       elim (same other name) as (λ b. tracker_in (cond b (Some t) None) ≡ empty) [ true ↦ e | false ↦ refl ]
@@ -45,13 +45,13 @@ module _ {N : Type 0} (same : N → N → Bool) where
       [ true ↦ refl | false ↦ found_at_end kept name t other e ]
 
   -- an empty tracker more changes nothing
-  pub tracker_started : (kept : List (N × Kept ℕ)) (name : N) (t : Kept ℕ) → t.tracker ≡ empty
+  pub tracker_started : (kept : List (N × TrackerState ℕ)) (name : N) (t : TrackerState ℕ) → t.tracker ≡ empty
       → tracker_of same (kept ++ (name, t) ∷ []) ≡ tracker_of same kept
   unfolding tracker_of
   tracker_started kept name t e = fun_ext (λ other. found_at_end kept name t other e)
 
   -- and is found
-  pub found_started : IsEquivalence same → (kept : List (N × Kept ℕ)) (name : N) (t : Kept ℕ)
+  pub found_started : IsEquivalence same → (kept : List (N × TrackerState ℕ)) (name : N) (t : TrackerState ℕ)
       → is_some (lookup (same name) (kept ++ (name, t) ∷ [])) ≡ true
   found_started laws [] name t = ap (λ b. is_some (cond b (Some t) None)) (laws.refl name)
   found_started laws (k ∷ kept) name t =
@@ -59,7 +59,7 @@ module _ {N : Type 0} (same : N → N → Bool) where
       [ true ↦ refl | false ↦ found_started laws kept name t ]
 
   -- an empty tracker more takes no room away
-  pub room_started : (kept : List (N × Kept ℕ)) (name : N) (t : Kept ℕ) (other : N) → KeepsRoomFor same other kept (kept ++ (name, t) ∷ [])
+  pub room_started : (kept : List (N × TrackerState ℕ)) (name : N) (t : TrackerState ℕ) (other : N) → KeepsRoomFor same other kept (kept ++ (name, t) ∷ [])
   room_started [] name t other with_helper h = absurd h
   room_started (k ∷ kept) name t other with_helper h =
       (elim (same other k.0) as (λ b. MatchOption (cond b (Some k.1) (lookup (same other) kept)) ⊥ (λ t. HasRoom t with_helper)
@@ -68,19 +68,19 @@ module _ {N : Type 0} (same : N → N → Bool) where
 
 module _ {N : Type 0} (same : N → N → Bool) (laws : IsEquivalence same) where
   -- with another tracker in the place of a name's
-  found_put : (kept : List (N × Kept ℕ)) (name : N) (t : Kept ℕ) (other : N) → is_some (lookup (same name) kept) ≡ true
+  found_put : (kept : List (N × TrackerState ℕ)) (name : N) (t : TrackerState ℕ) (other : N) → is_some (lookup (same name) kept) ≡ true
       → lookup (same other) (set_value (same name) kept t) ≡ cond (same other name) (Some t) (lookup (same other) kept)
   found_put kept name t other some =
       lookup-set_value laws (same name) (λ x y. laws.congr name x y) other t kept some
       ∙ ap (λ b. cond b (Some t) (lookup (same other) kept)) (laws.symm name other)
 
-  pub still_found : (kept : List (N × Kept ℕ)) (name : N) (t : Kept ℕ) → is_some (lookup (same name) kept) ≡ true
+  pub still_found : (kept : List (N × TrackerState ℕ)) (name : N) (t : TrackerState ℕ) → is_some (lookup (same name) kept) ≡ true
       → lookup (same name) (set_value (same name) kept t) ≡ Some t
   still_found kept name t some =
       found_put kept name t name some ∙ ap (λ b. cond b (Some t) (lookup (same name) kept)) (laws.refl name)
 
-  module _ (is_sameness : (a b : N) → same a b ≡ true → a ≡ b) (kept : List (N × Kept ℕ)) (name : N)
-      (earlier after : Kept ℕ) (is : lookup (same name) kept ≡ Some earlier) where
+  module _ (is_sameness : (a b : N) → same a b ≡ true → a ≡ b) (kept : List (N × TrackerState ℕ)) (name : N)
+      (earlier after : TrackerState ℕ) (is : lookup (same name) kept ≡ Some earlier) where
     -- a tracker that tracks the same
     pub tracker_kept : after.tracker ≡ earlier.tracker → tracker_of same (set_value (same name) kept after) ≡ tracker_of same kept
     unfolding tracker_of
@@ -122,12 +122,12 @@ module _ {N : Type 0} (same : N → N → Bool) (laws : IsEquivalence same) wher
 
 -- ---- the tracker at a name's place
 
-module _ {N : Type 0} (same : N → N → Bool) (IsId : N → Type 0) (places : N → Option ℕ) (kept : List (N × Kept ℕ)) (name : N) (p : ℕ)
-    (are : AreKept same IsId (2 ^ 32) places kept) (at : place_of same kept name ≡ Some p) where
+module _ {N : Type 0} (same : N → N → Bool) (IsId : N → Type 0) (places : N → Option ℕ) (kept : List (N × TrackerState ℕ)) (name : N) (p : ℕ)
+    (are : AreStored same IsId (2 ^ 32) places kept) (at : place_of same kept name ≡ Some p) where
   pub place_within : p < length kept
   place_within = (place_below same IsId (2 ^ 32) places kept name p are at).0
 
-  module _ (x : N × Kept ℕ) (read : x ≡ get_or kept p x) where
+  module _ (x : N × TrackerState ℕ) (read : x ≡ get_or kept p x) where
     stands : slice_get kept p ≡ Some x
     stands = slice_get_read kept (length kept) p x refl place_within read
 
@@ -135,12 +135,12 @@ module _ {N : Type 0} (same : N → N → Bool) (IsId : N → Type 0) (places : 
     is_found = answer_earlier same kept name p x at stands
 
     -- another tracker in its place
-    pub put_there : (after : Kept ℕ) → set kept p (x.0, after) ≡ set_value (same name) kept after
+    pub put_there : (after : TrackerState ℕ) → set kept p (x.0, after) ≡ set_value (same name) kept after
     put_there after = answer_replaced same kept name p x after at stands
 
-    pub still_kept : (after : Kept ℕ) → AreKept same IsId (2 ^ 32) places (set kept p (x.0, after))
+    pub still_kept : (after : TrackerState ℕ) → AreStored same IsId (2 ^ 32) places (set kept p (x.0, after))
     still_kept after =
-        subst (AreKept same IsId (2 ^ 32) places) (sym (put_there after)) (AreKept-replaced same IsId (2 ^ 32) places kept (same name) after are)
+        subst (AreStored same IsId (2 ^ 32) places) (sym (put_there after)) (AreStored-replaced same IsId (2 ^ 32) places kept (same name) after are)
 
 -- ---- why a tracker is refused
 

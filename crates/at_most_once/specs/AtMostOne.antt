@@ -13,19 +13,19 @@ pub record Tracker (V : Type 0) : Type 0 where
   pub variables : List V
   pub helpers : List V
 
--- what is kept of a tracker: for how many more variables, and for how many more helpers, there is room
-pub record Kept (V : Type 0) : Type 0 where
+-- a tracker, and for how many more variables, and for how many more helpers, there is room
+pub record TrackerState (V : Type 0) : Type 0 where
   pub tracker : Tracker V
   pub variable_room : ℕ
   pub helper_room : ℕ
 
 -- there is room for one more variable, and for a helper where one comes with it
-pub record HasRoom {V : Type 0} (kept : Kept V) (with_helper : Bool) : Type 0 where
-  pub variable : 0 < kept.variable_room
-  pub helper : IsTrue with_helper → 0 < kept.helper_room
+pub record HasRoom {V : Type 0} (state : TrackerState V) (with_helper : Bool) : Type 0 where
+  pub variable : 0 < state.variable_room
+  pub helper : IsTrue with_helper → 0 < state.helper_room
 
 -- no room is lost
-abbrev pub KeepsRoom : {V : Type 0} → Kept V → Kept V → Type 0
+abbrev pub KeepsRoom : {V : Type 0} → TrackerState V → TrackerState V → Type 0
 KeepsRoom old new = (with_helper : Bool) → HasRoom old with_helper → HasRoom new with_helper
 
 -- a clause of a variable x and a helper h: "not x or h" where the third part is true, "not x or not h" where it is
@@ -106,9 +106,9 @@ pub data Adds {V : Type 0} (same : V → V → Bool) : Tracker V → List (BitCl
 
 -- ---- what the clauses say
 
--- a clause is met: its variable is false, or its helper is what the bit says
-abbrev pub is_met : {V : Type 0} → (V → Bool) → BitClause V → Bool
-is_met a c = not (a c.0) || beq (a c.1) c.2
+-- a clause is satisfied: its variable is false, or its helper is what the bit says
+abbrev pub is_satisfied : {V : Type 0} → (V → Bool) → BitClause V → Bool
+is_satisfied a c = not (a c.0) || beq (a c.1) c.2
 
 -- no two different variables of the list are true
 abbrev pub AtMostOne : {V : Type 0} → (V → Bool) → List V → Type 0
@@ -123,22 +123,22 @@ pub record IsLeastPower (k n : ℕ) : Type 0 where
   pub enough : n ≤ 2 ^ k
   pub least : (j : ℕ) → n ≤ 2 ^ j → k ≤ j
 
--- these truth values meet all clauses, where a test tells whether they meet one
-abbrev pub AreMet : {V C : Type 0} → ((V → Bool) → C → Bool) → (V → Bool) → List C → Type 0
-AreMet meets a cs = AllByRecursion (λ c. meets a c ≡ true) cs
+-- these truth values satisfy all clauses, where a test says whether they satisfy one
+abbrev pub SatisfiesAll : {V C : Type 0} → ((V → Bool) → C → Bool) → (V → Bool) → List C → Type 0
+SatisfiesAll satisfies a cs = AllByRecursion (λ c. satisfies a c ≡ true) cs
 
 -- what clauses of any kind say
-module _ {V C : Type 0} (same : V → V → Bool) (meets : (V → Bool) → C → Bool) where
-  -- the clauses can be met by choosing helpers, where all else has these values
-  abbrev pub CanBeMet : (V → Bool) → List V → List C → Type 0
-  CanBeMet x helpers cs = (a : V → Bool) × ChoosesHelpers same helpers x a × AreMet meets a cs
+module _ {V C : Type 0} (same : V → V → Bool) (satisfies : (V → Bool) → C → Bool) where
+  -- the clauses can be satisfied by choosing helpers, where all else has these values
+  abbrev pub AreSatisfiable : (V → Bool) → List V → List C → Type 0
+  AreSatisfiable x helpers cs = (a : V → Bool) × ChoosesHelpers same helpers x a × SatisfiesAll satisfies a cs
 
   -- the clauses say that at most one tracked variable is true
   pub record SaysAtMostOne (t : Tracker V) (cs : List C) : Type 0 where
     -- no tracked variable is a helper
     pub apart : (v : V) → Contains t.variables v → list_any (same v) t.helpers ≡ false
-    -- the clauses can be met by choosing helpers exactly when at most one tracked variable is true
-    pub at_most_one : (x : V → Bool) → CanBeMet x t.helpers cs ↔ AtMostOne x t.variables
+    -- the clauses can be satisfied by choosing helpers exactly when at most one tracked variable is true
+    pub at_most_one : (x : V → Bool) → AreSatisfiable x t.helpers cs ↔ AtMostOne x t.variables
     -- n variables have k helpers and n * k clauses, k the least number with n ≤ 2 ^ k
     pub count : length cs ≡ length t.variables * length t.helpers
     pub least : IsLeastPower (length t.helpers) (length t.variables)
@@ -146,4 +146,4 @@ module _ {V C : Type 0} (same : V → V → Bool) (meets : (V → Bool) → C �
 -- a tracker with all its clauses: a list of additions to an empty tracker leaves both
 pub record IsEncoding {V : Type 0} (same : V → V → Bool) (t : Tracker V) (cs : List (BitClause V)) : Type 0 where
   pub adds : Adds same t cs
-  pub says : SaysAtMostOne same is_met t cs
+  pub says : SaysAtMostOne same is_satisfied t cs

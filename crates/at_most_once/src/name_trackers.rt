@@ -4,7 +4,7 @@ ghost use Rattle.std.specs.Prelude.{IfNone, IsTrue, IsOk, OnOk, IfOk, OnErr, IfE
 ghost use Rattle.std.specs.Map.{lookup};
 ghost use Rattle.typed_ids.specs.Refusals.{IsGrowthRefusal};
 ghost use Rattle.typed_ids.specs.declared.error.StoreError.TheVariants.{IdSpace, OutOfMemory};
-ghost use Rattle.id_storage.specs.KeptAnswers.{place_of};
+ghost use Rattle.id_storage.specs.StoredAnswers.{place_of};
 ghost use Rattle.at_most_once.specs.AtMostOne.{empty, HasRoom, is_tracked, needs_helper, clauses_for, with_variable};
 ghost use Rattle.at_most_once.specs.NameTrackers.{tracker_of, with_tracked, HasRoomFor, KeepsRoomFor, lacks_tracker};
 
@@ -28,14 +28,14 @@ pub struct NameTrackers<N: SolverId<A>, A: Allocator + Copy> {
 /// The names that have trackers, with what these track and the room in them.
 impl<N: SolverId<A>, A: Allocator + Copy> Model for NameTrackers<N, A> {
     ghost use Rattle.std.specs.Prelude.{ℕ, ◌^◌, List};
-    ghost use Rattle.id_storage.specs.KeptAnswers.{AreKept};
-    ghost use Rattle.at_most_once.specs.AtMostOne.{Kept};
+    ghost use Rattle.id_storage.specs.StoredAnswers.{AreStored};
+    ghost use Rattle.at_most_once.specs.AtMostOne.{TrackerState};
 
-    ghost Value = { List (N × Kept ℕ) };
+    ghost Value = { List (N × TrackerState ℕ) };
 
     ghost view = { λ t. t.list.items };
 
-    ghost invariant = { λ t. AreKept N.eq N.is_id (2 ^ 32) (N.Slots.value_at t.places) t.list.items };
+    ghost invariant = { λ t. AreStored N.eq N.is_id (2 ^ 32) (N.Slots.value_at t.places) t.list.items };
 }
 
 impl<N: SolverId<A>, A: Allocator + Copy> NameTrackers<N, A> {

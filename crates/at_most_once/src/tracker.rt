@@ -28,12 +28,12 @@ pub struct AtMostOnceTracker<V: Eq + Hash + Copy, A: Allocator = Global> {
 
 /// The tracked variables and the helpers, in order, and the room for more.
 impl<V: Eq + Hash + Copy, A: Allocator> Model for AtMostOnceTracker<V, A> {
-    ghost use Rattle.at_most_once.specs.AtMostOne.{Kept};
-    ghost use Rattle.at_most_once.specs.TrackerView.{kept_in};
+    ghost use Rattle.at_most_once.specs.AtMostOne.{TrackerState};
+    ghost use Rattle.at_most_once.specs.TrackerView.{tracker_in};
 
-    ghost Value = { Kept V };
+    ghost Value = { TrackerState V };
 
-    ghost view = { kept_in };
+    ghost view = { tracker_in };
 }
 
 impl<V: Eq + Hash + Copy, A: Allocator + Copy> AtMostOnceTracker<V, A> {
@@ -214,7 +214,7 @@ fn has_bit(number: usize, bit: usize) -> bool
     bit < WORD_BITS && (number >> bit) & 1 == 1
 }
 
-/// Whether so many variables need more bits than these, once there is one variable more.
+/// Whether `count` variables and one more need more bits than these.
 fn is_past(count: usize, bits: usize) -> bool
     ensures { result ≡ (nat_lt 0 count && nat_lt (2 ^ bits - 1) count) }
 {

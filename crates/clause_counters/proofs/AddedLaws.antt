@@ -15,8 +15,8 @@ use Rattle.clause_counters.specs.Links.{listed, count}
 use Rattle.clause_counters.specs.Counted.{no_standing, standing_at, no_group, group_at, all_places, open_places}
 use Rattle.clause_counters.specs.Counted.{IsPlaced, clause_lists, all_members, open_members, IsJoined}
 use Rattle.clause_counters.specs.Adding.{IsStanding, IsMember, AreFlagged}
-use Rattle.clause_counters.specs.Kept.{Stood, kept_in, stood_at}
-use Rattle.clause_counters.specs.Shown.{Shown, GroupClause, no_clause, Shows, once, with_group, with_clause}
+use Rattle.clause_counters.specs.CounterState.{Stood, counters_in, stood_at}
+use Rattle.clause_counters.specs.GroupedClauses.{GroupedClauses, GroupClause, no_clause, Represents, once, with_group, with_clause}
 use Rattle.clause_counters.proofs.ListLaws.{pushed_field, pushed_count}
 use Rattle.clause_counters.proofs.CountLaws.{no_term}
 use Rattle.clause_counters.proofs.FlagLaws.{stood_kept}
@@ -93,26 +93,26 @@ joined_added ms gs lefts left j = record {
 
 -- as many groups are shown as are kept
 pub groups_shown : (ps : List Link) (ls : List Standing) (ms : List Link) (gs : List Group)
-    (firsts : List ℕ) (has_room : Bool) (s : Shown)
-    → Shows (kept_in ps ls ms gs firsts has_room) s → length gs ≡ length s.groups
+    (firsts : List ℕ) (has_room : Bool) (s : GroupedClauses)
+    → Represents (counters_in ps ls ms gs firsts has_room) s → length gs ≡ length s.groups
 groups_shown ps ls ms gs firsts has_room s shows =
     sym (length-map gs (λ (x : Group). x.clauses)) ∙ (sym (length-map (clause_lists gs) (listed ms)) ∙ shows.size)
 
 -- as many clauses are shown as are kept
 pub clauses_shown : (ps : List Link) (ls : List Standing) (ms : List Link) (gs : List Group)
-    (firsts : List ℕ) (has_room : Bool) (s : Shown)
-    → Shows (kept_in ps ls ms gs firsts has_room) s → length firsts ≡ length s.clauses
+    (firsts : List ℕ) (has_room : Bool) (s : GroupedClauses)
+    → Represents (counters_in ps ls ms gs firsts has_room) s → length firsts ≡ length s.clauses
 clauses_shown ps ls ms gs firsts has_room s shows = ap length shows.firsts
     ∙ length-map s.clauses (λ (x : GroupClause). x.first_of_parent)
 
 pub shows_group : (ps ps' : List Link) (ls ls' : List Standing) (ms : List Link) (gs : List Group)
-    (firsts : List ℕ) (has_room : Bool) (s : Shown) (list : List Lit)
-    (n left : ℕ) → n ≡ length gs → Shows (kept_in ps ls ms gs firsts has_room) s
+    (firsts : List ℕ) (has_room : Bool) (s : GroupedClauses) (list : List Lit)
+    (n left : ℕ) → n ≡ length gs → Represents (counters_in ps ls ms gs firsts has_room) s
     → ((i g : ℕ) → count g (listed ps' (standing_at ls' i).groups)
     ≡ count g (listed ps (standing_at ls i).groups) + cond (eqb n g) (once i list) 0)
     → ((is_false : ℕ → Bool) → AreFlagged ps ls is_false
     → All (λ l. is_false (literal_index l) ≡ s.is_false l) list → AreFlagged ps' ls' is_false)
-    → Shows (kept_in ps' ls' ms (gs ++ (record { left = left; clauses = 0 }) ∷ []) firsts has_room)
+    → Represents (counters_in ps' ls' ms (gs ++ (record { left = left; clauses = 0 }) ∷ []) firsts has_room)
     (with_group list s)
 shows_group ps ps' ls ls' ms gs firsts has_room s list n left is shows lists flags = record {
   size = length-map (clause_lists (gs ++ (record { left = left; clauses = 0 }) ∷ [])) (listed ms)
@@ -146,9 +146,9 @@ shows_group ps ps' ls ls' ms gs firsts has_room s list n left is shows lists fla
     flagged i g some =
         let e : literal_index (literal_at i) ≡ i = literal_index-literal_at i in
         sym (ap (λ (x : Stood). x.is_false) (stood_kept ps ls i))
-        ∙ (ap (λ j. (stood_at (kept_in ps ls ms gs firsts has_room) j).is_false) (sym e)
+        ∙ (ap (λ j. (stood_at (counters_in ps ls ms gs firsts has_room) j).is_false) (sym e)
         ∙ shows.falses (literal_at i) g (subst (λ j. 1 ≤ count g
-        (stood_at (kept_in ps ls ms gs firsts has_room) j).groups) (sym e)
+        (stood_at (counters_in ps ls ms gs firsts has_room) j).groups) (sym e)
         (subst (λ (x : Stood). 1 ≤ count g x.groups) (sym (stood_kept ps ls i)) some)))
 
 -- groups that count as before keep their places
@@ -190,13 +190,13 @@ joined_clause ms ms' gs gs' lefts n left many is j mb all some fits = record {
 }
 
 pub shows_clause : (ps : List Link) (ls : List Standing) (ms ms' : List Link) (gs gs' : List Group)
-    (firsts firsts' : List ℕ) (has_room has_room' : Bool) (s : Shown)
+    (firsts firsts' : List ℕ) (has_room has_room' : Bool) (s : GroupedClauses)
     (list : List ℕ) (first n : ℕ) → n ≡ length firsts → length gs' ≡ length gs
     → firsts' ≡ firsts ++ first ∷ []
-    → Shows (kept_in ps ls ms gs firsts has_room) s
+    → Represents (counters_in ps ls ms gs firsts has_room) s
     → ((g c : ℕ) → count c (listed ms' (group_at gs' g).clauses)
     ≡ count c (listed ms (group_at gs g).clauses) + cond (eqb n c) (count g list) 0)
-    → Shows (kept_in ps ls ms' gs' firsts' has_room') (with_clause list first s)
+    → Represents (counters_in ps ls ms' gs' firsts' has_room') (with_clause list first s)
 shows_clause ps ls ms ms' gs gs' firsts firsts' has_room has_room' s list first n is same pushed shows
     lists = record {
       size = length-map (clause_lists gs') (listed ms') ∙ (length-map gs' (λ (x : Group). x.clauses)

@@ -12,7 +12,7 @@ use Rattle.clause_counters.specs.declared.groups.Group.{Group}
 use Rattle.clause_counters.specs.Links.{no_link, link_at, listed, count}
 use Rattle.clause_counters.specs.Counted.{no_standing, standing_at, no_group, group_at, all_places, open_places}
 use Rattle.clause_counters.specs.Counted.{all_members, open_members}
-use Rattle.clause_counters.specs.Adding.{IsStanding, IsMember, flag_told, with_place, placed_at, with_member}
+use Rattle.clause_counters.specs.Adding.{IsStanding, IsMember, initial_flag, with_place, placed_at, with_member}
 use Rattle.clause_counters.specs.Adding.{joined_at, AreFlagged, is_newest, with_place_once, placed_once}
 use Rattle.clause_counters.proofs.ListLaws.{field_kept}
 use Rattle.clause_counters.proofs.PoolLaws.{lists_pushed, within_pushed, pool_pushed, all_pushed, open_pushed}
@@ -70,7 +70,7 @@ or_same false i k says = elim (cases_eq i k) [
 module _ (ps : List Link) (ls : List Standing) (st : IsStanding ps ls) (i : ℕ) (l : i < length ls) (group : ℕ)
     (told : Bool) where
   abbrev row : Standing
-  row = record { is_false = flag_told (standing_at ls i) told; groups = length ps + 1 }
+  row = record { is_false = initial_flag (standing_at ls i) told; groups = length ps + 1 }
 
   pub standing_step : IsStanding (with_place ps ls i group) (placed_at ps ls i told)
   standing_step = record {
@@ -88,14 +88,14 @@ module _ (ps : List Link) (ls : List Standing) (st : IsStanding ps ls) (i : ℕ)
   all_step = all_pushed is_closed list_of no_standing ps st.linked ls st.within i l group row refl
 
   -- a literal that stands somewhere keeps its flag
-  flag_kept : ((standing_at ls i).groups ≡ 0 → ⊥) → flag_told (standing_at ls i) told ≡ (standing_at ls i).is_false
+  flag_kept : ((standing_at ls i).groups ≡ 0 → ⊥) → initial_flag (standing_at ls i) told ≡ (standing_at ls i).is_false
   flag_kept some = ap (λ b. cond b told (standing_at ls i).is_false) (ne_eqb (standing_at ls i).groups 0 some)
 
   pub open_step : (h : ℕ) → open_places (with_place ps ls i group) (placed_at ps ls i told) h
-      ≡ open_places ps ls h + cond (eqb group h) (cond (flag_told (standing_at ls i) told) 0 1) 0
+      ≡ open_places ps ls h + cond (eqb group h) (cond (initial_flag (standing_at ls i) told) 0 1) 0
   open_step h = open_pushed is_closed list_of no_standing ps st.linked ls st.within i l group row refl h why
     where
-      why : ((standing_at ls i).is_false ≡ flag_told (standing_at ls i) told) ⊎ ((standing_at ls i).groups ≡ 0)
+      why : ((standing_at ls i).is_false ≡ initial_flag (standing_at ls i) told) ⊎ ((standing_at ls i).groups ≡ 0)
       why = elim (cases_eq (standing_at ls i).groups 0) [
         | inl e ↦ inr e
         | inr ne ↦ inl (sym (flag_kept ne))
@@ -113,7 +113,7 @@ module _ (ps : List Link) (ls : List Standing) (st : IsStanding ps ls) (i : ℕ)
         omega (arith, step, none, some))
   ]
     where
-      here : flag_told (standing_at ls i) told ≡ is_false i
+      here : initial_flag (standing_at ls i) told ≡ is_false i
       here = elim (cases_eq (standing_at ls i).groups 0) [
         | inl e ↦ ap (λ b. cond b told (standing_at ls i).is_false) (eq-eqb (standing_at ls i).groups 0 e) ∙ sym says
         | inr ne ↦ flag_kept ne ∙ flagged i (link_at ps ((standing_at ls i).groups - 1)).value
@@ -127,7 +127,7 @@ module _ (ps : List Link) (ls : List Standing) (st : IsStanding ps ls) (i : ℕ)
     | inl e ↦ subst (λ x. is_newest (with_place ps ls i group) (standing_at (placed_at ps ls i told) x) group
         ≡ (is_newest ps (standing_at ls x) group || eqb i x)) (sym e)
         (ap (λ (x : Standing). is_newest (with_place ps ls i group) x group) (get_or-set_same ls i row no_standing l)
-        ∙ (newest_pushed ps group (standing_at ls i).groups (flag_told (standing_at ls i) told)
+        ∙ (newest_pushed ps group (standing_at ls i).groups (initial_flag (standing_at ls i) told)
         ∙ sym (ap (λ b. is_newest ps (standing_at ls i) group || b) (eq-eqb i i refl)
         ∙ or-true (is_newest ps (standing_at ls i) group))))
     | inr ne ↦ ap (λ (x : Standing). is_newest (with_place ps ls i group) x group)
@@ -171,9 +171,9 @@ module _ (ps : List Link) (ls : List Standing) (st : IsStanding ps ls) (i : ℕ)
       (λ e. omega arith) (let all = all_step ps ls st i l group told h in omega (arith, all))
 
   pub open_once : (h : ℕ) → open_places (with_place_once ps ls i group) (placed_once ps ls i group told) h
-      ≡ open_places ps ls h + cond (eqb group h) (cond has_one 0 (cond (flag_told (standing_at ls i) told) 0 1)) 0
+      ≡ open_places ps ls h + cond (eqb group h) (cond has_one 0 (cond (initial_flag (standing_at ls i) told) 0 1)) 0
   open_once h = either (λ b x y. open_places x y h ≡ open_places ps ls h
-      + cond (eqb group h) (cond b 0 (cond (flag_told (standing_at ls i) told) 0 1)) 0)
+      + cond (eqb group h) (cond b 0 (cond (initial_flag (standing_at ls i) told) 0 1)) 0)
       (λ e. let none = no_term (eqb group h) in omega (arith, none)) (open_step ps ls st i l group told h)
 
   pub flags_once : (is_false : ℕ → Bool) → AreFlagged ps ls is_false → is_false i ≡ told
@@ -195,7 +195,7 @@ module _ (ps : List Link) (ls : List Standing) (st : IsStanding ps ls) (i : ℕ)
 
   pub literals_once : length (placed_once ps ls i group told) ≡ length ls
   literals_once = either (λ b x y. length y ≡ length ls) (λ e. refl) (length-set ls i
-      (record { is_false = flag_told (standing_at ls i) told; groups = length ps + 1 }))
+      (record { is_false = initial_flag (standing_at ls i) told; groups = length ps + 1 }))
 
 module _ (ms : List Link) (gs : List Group) (mb : IsMember ms gs) (i : ℕ) (l : i < length gs) (clause : ℕ) where
   abbrev group_row : Group

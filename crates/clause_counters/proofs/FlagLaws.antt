@@ -12,7 +12,7 @@ use Rattle.clause_counters.specs.Counted.{no_standing, standing_at, group_at, al
 use Rattle.clause_counters.specs.Counted.{clause_lists}
 use Rattle.clause_counters.proofs.ListLaws.{field_kept}
 use Rattle.clause_counters.proofs.OpenSums.{open_part, closed_part}
-use Rattle.clause_counters.specs.Kept.{Kept, Stood, stood_in, kept_in, told, nowhere, IsSame}
+use Rattle.clause_counters.specs.CounterState.{CounterState, Stood, stood_in, counters_in, with_flag, nowhere, IsSame}
 
 -- the literal is told to be false, or not to be
 abbrev pub flagged : Bool → ℕ → List Standing → List Standing
@@ -65,12 +65,12 @@ pub placed_false : (places : List Link) (ls : List Standing) (groups new : List 
     → ((g : ℕ) → (group_at new g).left + places_at places ls i g ≡ (group_at groups g).left)
     → IsPlaced places (flagged true i ls) new
 placed_false places ls groups new i p l undecided same less = placed_flagged places ls groups new true i p l same (λ g.
-    let told = open_flagged places true i g ls l in
+    let with_flag = open_flagged places true i g ls l in
     let was : cond (standing_at ls i).is_false 0 (places_at places ls i g) ≡ places_at places ls i g =
     ap (λ b. cond b 0 (places_at places ls i g)) undecided in
     let before = p.counts g in
     let change = less g in
-    omega (arith, told, was, before, change))
+    omega (arith, with_flag, was, before, change))
 
 -- a literal becomes undecided
 pub placed_undecided : (places : List Link) (ls : List Standing) (groups new : List Group) (i : ℕ)
@@ -80,12 +80,12 @@ pub placed_undecided : (places : List Link) (ls : List Standing) (groups new : L
     → IsPlaced places (flagged false i ls) new
 placed_undecided places ls groups new i p l decided same more =
     placed_flagged places ls groups new false i p l same (λ g.
-    let told = open_flagged places false i g ls l in
+    let with_flag = open_flagged places false i g ls l in
     let was : ◌≡◌ {A = ℕ} (cond (standing_at ls i).is_false 0 (places_at places ls i g)) 0 =
     ap (λ b. cond b 0 (places_at places ls i g)) decided in
     let before = p.counts g in
     let change = more g in
-    omega (arith, told, was, before, change))
+    omega (arith, with_flag, was, before, change))
 
 -- a literal's places are among all, and among those that aren't false if it isn't
 pub of_literal : (places : List Link) (ls : List Standing) (i g : ℕ) → i < length ls
@@ -118,7 +118,7 @@ stood_kept places ls i = elim (cases_lt i (length ls)) [
 same_parts : (literals literals' : List Stood) (groups groups' : List (List ℕ)) (firsts firsts' : List ℕ)
     (has_room : Bool)
     → literals ≡ literals' → groups ≡ groups' → firsts ≡ firsts'
-    → ◌≡◌ {A = Kept} (record { literals = literals; groups = groups; firsts = firsts; has_room = has_room })
+    → ◌≡◌ {A = CounterState} (record { literals = literals; groups = groups; firsts = firsts; has_room = has_room })
     (record { literals = literals'; groups = groups'; firsts = firsts'; has_room = has_room })
 same_parts literals literals' groups groups' firsts firsts' has_room l g p = cc
 
@@ -126,8 +126,8 @@ same_parts literals literals' groups groups' firsts firsts' has_room l g p = cc
 pub told_kept : (places : List Link) (ls : List Standing) (members : List Link) (groups new : List Group)
     (firsts firsts' : List ℕ) (has_room has_room' : Bool)
     (b : Bool) (i : ℕ) → clause_lists new ≡ clause_lists groups → firsts' ≡ firsts
-    → IsSame (told b i (kept_in places ls members groups firsts has_room))
-    (kept_in places (flagged b i ls) members new firsts' has_room')
+    → IsSame (with_flag b i (counters_in places ls members groups firsts has_room))
+    (counters_in places (flagged b i ls) members new firsts' has_room')
 told_kept places ls members groups new firsts firsts' has_room has_room' b i lists same =
     let literals : map (stood_in places) (flagged b i ls) ≡ set (map (stood_in places) ls) i
     (record (get_or (map (stood_in places) ls) i nowhere) { is_false = b }) =

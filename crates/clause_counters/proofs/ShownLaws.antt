@@ -17,9 +17,9 @@ use Rattle.clause_counters.specs.Links.{listed, count}
 use Rattle.clause_counters.specs.FalsifiedHeap.{IsFirst}
 use Rattle.clause_counters.specs.Counted.{no_standing, standing_at, no_group, group_at, IsPlaced, clause_lists}
 use Rattle.clause_counters.specs.Counted.{IsJoined}
-use Rattle.clause_counters.specs.Kept.{Kept, Stood, kept_in, told, nowhere, stood_at, IsSame}
-use Rattle.clause_counters.specs.Shown.{Shown, GroupClause, no_clause, Shows, shown_clause, literals_of, has_index}
-use Rattle.clause_counters.specs.Shown.{once, is_falsified, IsFirstFalsified}
+use Rattle.clause_counters.specs.CounterState.{CounterState, Stood, counters_in, with_flag, nowhere, stood_at, IsSame}
+use Rattle.clause_counters.specs.GroupedClauses.{GroupedClauses, GroupClause, no_clause, Represents, grouped_clause, literals_of, has_index}
+use Rattle.clause_counters.specs.GroupedClauses.{once, is_falsified, IsFirstFalsified}
 use Rattle.clause_counters.proofs.ListLaws.{found, field_kept, sum_none, counted_there}
 use Rattle.clause_counters.proofs.CountLaws.{of_open_group}
 use Rattle.clause_counters.proofs.FirstLaws.{same_first_of}
@@ -48,14 +48,14 @@ if_one false some = absurd (omega (arith, some))
 
 -- what fields keep, with what they show
 module _ (places : List Link) (ls : List Standing) (members : List Link) (groups : List Group) (lefts : List ℕ)
-    (firsts : List ℕ) (has_room : Bool) (s : Shown)
+    (firsts : List ℕ) (has_room : Bool) (s : GroupedClauses)
     (p : IsPlaced places ls groups) (j : IsJoined members groups lefts)
-    (shows : Shows (kept_in places ls members groups firsts has_room) s) where
+    (shows : Represents (counters_in places ls members groups firsts has_room) s) where
   -- a literal's places, as they are shown
   stands : (i g : ℕ) → places_at places ls i g ≡ once i (literals_of s g)
   stands i g = sym (ap (λ (x : Stood). count g x.groups) (stood_kept places ls i)) ∙ shows.stands i g
 
-  joins : (g c : ℕ) → count c (listed members (group_at groups g).clauses) ≡ count g (shown_clause s c).groups
+  joins : (g c : ℕ) → count c (listed members (group_at groups g).clauses) ≡ count g (grouped_clause s c).groups
   joins g c = sym (ap (count c) (clauses_kept members groups g)) ∙ shows.joins g c
 
   falses : (l : Lit) (g : ℕ) → 1 ≤ places_at places ls (literal_index l) g
@@ -126,9 +126,9 @@ module _ (places : List Link) (ls : List Standing) (members : List Link) (groups
   -- a clause's number is zero if it is falsified, and only then
   pub zero_falsified : (c : ℕ) → get_or lefts c 0 ≡ 0 → is_falsified s c ≡ true
   zero_falsified c zero' = list_all-from_AllPass (λ g. list_all s.is_false (literals_of s g))
-      (shown_clause s c).groups (λ k d l.
-      let g : ℕ = get_or (shown_clause s c).groups k d in
-      let there = counted_there (λ other. eqb other g) d (shown_clause s c).groups k l (eq-eqb g g refl) in
+      (grouped_clause s c).groups (λ k d l.
+      let g : ℕ = get_or (grouped_clause s c).groups k d in
+      let there = counted_there (λ other. eqb other g) d (grouped_clause s c).groups k l (eq-eqb g g refl) in
       let same = joins g c in
       let some : 1 ≤ count c (listed members (group_at groups g).clauses) = omega (arith, there, same) in
       let within = group_there g c some in
@@ -145,13 +145,13 @@ module _ (places : List Link) (ls : List Standing) (members : List Link) (groups
       (elim (cases_lt 0 (count c (listed members (group_at groups g).clauses))) [
         | inl some ↦
             let same = joins g c in
-            let at = found (λ other. eqb other g) 0 (shown_clause s c).groups (omega (arith, same, some)) in
-            let is : get_or (shown_clause s c).groups at.0 0 ≡ g =
-            eqb-true (get_or (shown_clause s c).groups at.0 0) g at.2 in
+            let at = found (λ other. eqb other g) 0 (grouped_clause s c).groups (omega (arith, same, some)) in
+            let is : get_or (grouped_clause s c).groups at.0 0 ≡ g =
+            eqb-true (get_or (grouped_clause s c).groups at.0 0) g at.2 in
             let false' : list_all s.is_false (literals_of s g) ≡ true =
             subst (λ n. list_all s.is_false (literals_of s n) ≡ true) is
             (AllPass-from_list_all (λ h. list_all s.is_false (literals_of s h))
-            (shown_clause s c).groups all at.0 0 at.1) in
+            (grouped_clause s c).groups all at.0 0 at.1) in
             ap (λ n. cond (eqb n 0) 0 (count c (listed members (group_at groups g).clauses))) (false_group g false')
         | inr none ↦
             (elim (eqb (group_at groups g).left 0) as (λ b. cond b 0
@@ -162,7 +162,7 @@ module _ (places : List Link) (ls : List Standing) (members : List Link) (groups
       ]))
 
   -- the first clause of a clause's parent, as it is shown
-  first_of_shown : (c : ℕ) → get_or firsts c 0 ≡ (shown_clause s c).first_of_parent
+  first_of_shown : (c : ℕ) → get_or firsts c 0 ≡ (grouped_clause s c).first_of_parent
   first_of_shown c = ap (λ ps. get_or ps c 0) shows.firsts ∙ (elim (cases_lt c (length s.clauses)) [
     | inl l ↦ get_or-map (λ (x : GroupClause). x.first_of_parent) s.clauses c no_clause 0 l
     | inr past ↦ get_or_past (map (λ (x : GroupClause). x.first_of_parent) s.clauses) c 0
@@ -181,18 +181,18 @@ module _ (places : List Link) (ls : List Standing) (members : List Link) (groups
   pub first_shown : (answer : Option ℕ) → length lefts ≡ length firsts → IsFirst lefts firsts answer
       → IsFirstFalsified s answer
   first_shown answer same first =
-      same_first_of (slice_index firsts) (λ c. (shown_clause s c).first_of_parent) (length lefts) (length s.clauses)
+      same_first_of (slice_index firsts) (λ c. (grouped_clause s c).first_of_parent) (length lefts) (length s.clauses)
       (λ c. eqb (get_or lefts c 0) 0) (is_falsified s) answer (λ c l. first_of_shown c)
       (same ∙ (ap length shows.firsts ∙ length-map s.clauses (λ (x : GroupClause). x.first_of_parent)))
       (λ c l. zero_is_falsified c) first
 
 -- a literal that is told keeps its groups
-told_groups : (v : Kept) (b : Bool) (i k : ℕ) → (stood_at (told b i v) k).groups ≡ (stood_at v k).groups
+told_groups : (v : CounterState) (b : Bool) (i k : ℕ) → (stood_at (with_flag b i v) k).groups ≡ (stood_at v k).groups
 told_groups v b i k = field_kept (λ (x : Stood). x.groups) v.literals nowhere
     (record (stood_at v i) { is_false = b }) i k refl
 
 -- one with a place is kept
-stood_within : (v : Kept) (i g : ℕ) → 1 ≤ count g (stood_at v i).groups → i < length v.literals
+stood_within : (v : CounterState) (i g : ℕ) → 1 ≤ count g (stood_at v i).groups → i < length v.literals
 stood_within v i g some = elim (cases_lt i (length v.literals)) [
   | inl l ↦ l
   | inr past ↦ absurd (let none = ap (λ (x : Stood). count g x.groups) (get_or_past v.literals i nowhere past) in
@@ -200,10 +200,10 @@ stood_within v i g some = elim (cases_lt i (length v.literals)) [
 ]
 
 -- the flag of a literal with a place, once a literal was told
-told_flag : (v : Kept) (b : Bool) (i k g : ℕ) → 1 ≤ count g (stood_at v k).groups
-    → (stood_at (told b i v) k).is_false ≡ cond (eqb k i) b (stood_at v k).is_false
+told_flag : (v : CounterState) (b : Bool) (i k g : ℕ) → 1 ≤ count g (stood_at v k).groups
+    → (stood_at (with_flag b i v) k).is_false ≡ cond (eqb k i) b (stood_at v k).is_false
 told_flag v b i k g some = elim (cases_eq k i) [
-  | inl e ↦ ap (λ x. (stood_at (told b i v) x).is_false) e
+  | inl e ↦ ap (λ x. (stood_at (with_flag b i v) x).is_false) e
       ∙ (ap (λ (x : Stood). x.is_false) (get_or-set_same v.literals i (record (stood_at v i) { is_false = b }) nowhere
       (subst (λ x. x < length v.literals) e (stood_within v k g some)))
       ∙ sym (ap (λ t. cond t b (stood_at v k).is_false) (eq-eqb k i e)))
@@ -222,9 +222,9 @@ not_and_is true b = refl
 not_and_is false b = refl
 
 -- what is shown once a literal was told, by a function that says so
-pub shows_told : (v : Kept) (s : Shown) (l : Lit) (b : Bool) (is_false : Lit → Bool)
+pub shows_told : (v : CounterState) (s : GroupedClauses) (l : Lit) (b : Bool) (is_false : Lit → Bool)
     → ((other : Lit) → cond (has_index (literal_index l) other) b (s.is_false other) ≡ is_false other)
-    → Shows v s → Shows (told b (literal_index l) v) (record s { is_false = is_false })
+    → Represents v s → Represents (with_flag b (literal_index l) v) (record s { is_false = is_false })
 shows_told v s l b is_false says shows = record {
   size = shows.size;
   firsts = shows.firsts;
@@ -238,8 +238,8 @@ shows_told v s l b is_false says shows = record {
 }
 
 -- what is shown doesn't depend on the room
-pub shows_room : (old new : Kept) (s : Shown) → IsSame old new → Shows old s → Shows new s
-shows_room old new s same shows = subst (λ v. Shows v s) (sym same) (record {
+pub shows_room : (old new : CounterState) (s : GroupedClauses) → IsSame old new → Represents old s → Represents new s
+shows_room old new s same shows = subst (λ v. Represents v s) (sym same) (record {
   size = shows.size;
   firsts = shows.firsts;
   stands = shows.stands;
@@ -249,18 +249,18 @@ shows_room old new s same shows = subst (λ v. Shows v s) (sym same) (record {
 
 pub shows_again : (places : List Link) (ls : List Standing) (members members' : List Link) (groups : List Group)
     (firsts firsts' : List ℕ)
-    (has_room has_room' : Bool) (s : Shown) → members' ≡ members → firsts' ≡ firsts
-    → Shows (kept_in places ls members groups firsts has_room) s
-    → Shows (kept_in places ls members' groups firsts' has_room') s
+    (has_room has_room' : Bool) (s : GroupedClauses) → members' ≡ members → firsts' ≡ firsts
+    → Represents (counters_in places ls members groups firsts has_room) s
+    → Represents (counters_in places ls members' groups firsts' has_room') s
 shows_again places ls members members' groups firsts firsts' has_room has_room' s m p shows =
-    subst (λ x. Shows (kept_in places ls x groups firsts' has_room') s) (sym m)
-    (subst (λ x. Shows (kept_in places ls members groups x has_room') s) (sym p)
-    (shows_room (kept_in places ls members groups firsts has_room)
-    (kept_in places ls members groups firsts has_room') s refl shows))
+    subst (λ x. Represents (counters_in places ls x groups firsts' has_room') s) (sym m)
+    (subst (λ x. Represents (counters_in places ls members groups x has_room') s) (sym p)
+    (shows_room (counters_in places ls members groups firsts has_room)
+    (counters_in places ls members groups firsts has_room') s refl shows))
 
 -- a function that says the same of each literal is shown too: so the callers' may be that of a trail's values
-pub shows_same : (v : Kept) (s : Shown) (is_false : Lit → Bool) → ((l : Lit) → s.is_false l ≡ is_false l) → Shows v s
-    → Shows v (record s { is_false = is_false })
+pub shows_same : (v : CounterState) (s : GroupedClauses) (is_false : Lit → Bool) → ((l : Lit) → s.is_false l ≡ is_false l) → Represents v s
+    → Represents v (record s { is_false = is_false })
 shows_same v s is_false same shows = record {
   size = shows.size;
   firsts = shows.firsts;

@@ -18,9 +18,9 @@ pub record IsMember (members : List Link) (groups : List Group) : Type 0 where
   pub linked : IsLinked members
   pub within : (g : ℕ) → (group_at groups g).clauses ≤ length members
 
--- a literal that stands nowhere yet is false as told, another as it was
-abbrev pub flag_told : Standing → Bool → Bool
-flag_told at told = if at.groups == 0 then told else at.is_false
+-- a literal that stands nowhere yet gets the new flag, another keeps its own
+abbrev pub initial_flag : Standing → Bool → Bool
+initial_flag at new_flag = if at.groups == 0 then new_flag else at.is_false
 
 -- the literal's newest place is of the group
 abbrev pub is_newest : List Link → Standing → ℕ → Bool
@@ -32,8 +32,8 @@ with_place places literals index group =
     places ++ (record { value = group; next = (standing_at literals index).groups }) ∷ []
 
 abbrev pub placed_at : List Link → List Standing → ℕ → Bool → List Standing
-placed_at places literals index told = slice_set literals index
-    (record { is_false = flag_told (standing_at literals index) told; groups = length places + 1 })
+placed_at places literals index new_flag = slice_set literals index
+    (record { is_false = initial_flag (standing_at literals index) new_flag; groups = length places + 1 })
 
 -- the same, but a literal whose newest place is of the group gets no other
 abbrev pub with_place_once : List Link → List Standing → ℕ → ℕ → List Link
@@ -41,8 +41,8 @@ with_place_once places literals index group =
     if is_newest places (standing_at literals index) group then places else with_place places literals index group
 
 abbrev pub placed_once : List Link → List Standing → ℕ → ℕ → Bool → List Standing
-placed_once places literals index group told =
-    if is_newest places (standing_at literals index) group then literals else placed_at places literals index told
+placed_once places literals index group new_flag =
+    if is_newest places (standing_at literals index) group then literals else placed_at places literals index new_flag
 
 -- the clause becomes a member of the group
 abbrev pub with_member : List Link → List Group → ℕ → ℕ → List Link

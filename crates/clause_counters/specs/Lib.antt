@@ -2,6 +2,6 @@ pub mod Adding
 pub mod Counted
 pub mod FalsifiedHeap
 pub mod First
-pub mod Kept
+pub mod CounterState
 pub mod Links
-pub mod Shown
+pub mod GroupedClauses

@@ -11,8 +11,8 @@ ghost use Rattle.decisions.specs.LiteralIndex.{literal_index};
 ghost use Rattle.clause_counters.specs.Links.{IsLinked, listed, count};
 ghost use Rattle.clause_counters.specs.Counted.{standing_at, group_at, all_places};
 ghost use Rattle.clause_counters.specs.Counted.{open_places, all_members, open_members};
-ghost use Rattle.clause_counters.specs.Shown.{once};
-ghost use Rattle.clause_counters.specs.Adding.{IsStanding, IsMember, flag_told, is_newest, with_place_once};
+ghost use Rattle.clause_counters.specs.GroupedClauses.{once};
+ghost use Rattle.clause_counters.specs.Adding.{IsStanding, IsMember, initial_flag, is_newest, with_place_once};
 ghost use Rattle.clause_counters.specs.Adding.{placed_once, with_member, joined_at, AreFlagged, open_count};
 
 use crate::groups::{Group, Standing};
@@ -60,10 +60,14 @@ fn end_of(list: &[Literal], len: usize) -> usize
 }
 
 /// Whether a literal that gets a place is false: as told if it stands nowhere yet, and as it was if it does.
-fn flag_of(at: Standing, told: bool) -> bool
-    ensures { result ≡ flag_told at told }
+fn flag_of(at: Standing, new_flag: bool) -> bool
+    ensures { result ≡ initial_flag at new_flag }
 {
-    if at.groups == 0 { told } else { at.is_false }
+    if at.groups == 0 {
+        new_flag
+    } else {
+        at.is_false
+    }
 }
 
 /// Whether the values make the literal false.
@@ -91,23 +95,23 @@ fn place<A: Allocator + Copy>(
     places: &mut Vec<Link, A>,
     group: u32,
     index: usize,
-    told: bool,
+    new_flag: bool,
 ) -> bool
     requires within { index < vec_len literals.old }
     requires standing { (standing_at literals.old.items index).groups ≤ vec_len places.old }
     requires room { vec_len places.old < vec_capacity places.old }
     requires few { vec_len places.old + 1 < 2 ^ 32 }
     ensures places { places.new.items ≡ with_place_once places.old.items literals.old.items index group }
-    ensures literals { literals.new.items ≡ placed_once places.old.items literals.old.items index group told }
+    ensures literals { literals.new.items ≡ placed_once places.old.items literals.old.items index group new_flag }
     ensures left { let at = standing_at literals.old.items index in
-        result ≡ (not (is_newest places.old.items at group) && not (flag_told at told)) }
+        result ≡ (not (is_newest places.old.items at group) && not (initial_flag at new_flag)) }
     ensures capacity { vec_capacity places.new ≡ vec_capacity places.old }
 {
     let at = literals[index];
     if is_newest(places, at, group) {
         return false;
     }
-    let is_false = flag_of(at, told);
+    let is_false = flag_of(at, new_flag);
     places.push_reserved(Link {
         value: group,
         next: at.groups,
@@ -147,8 +151,8 @@ pub(crate) fn place_literals<A: Allocator + Copy>(
 {
     let mut left = 0u32;
     for literal in list {
-        let told = is_false(*literal, values);
-        let is_left = place(literals, places, group, literal.to_index(), told);
+        let new_flag = is_false(*literal, values);
+        let is_left = place(literals, places, group, literal.to_index(), new_flag);
         left += u32::from(is_left);
     }
     left

@@ -5,9 +5,10 @@ ghost use Rattle.std.specs.List.{All};
 ghost use Rattle.typed_ids.specs.declared.error.StoreError.TheVariants.{OutOfMemory};
 ghost use Rattle.decisions.specs.Decisions.{values_in};
 ghost use Rattle.decisions.specs.Literals.{Lit, is_false_literal};
-ghost use Rattle.clause_counters.specs.Kept.{told, IsSame};
-ghost use Rattle.clause_counters.specs.Shown.{Shown, Shows, KeepsShown, empty, AddsGroup, AddsClause, row_literals};
-ghost use Rattle.clause_counters.specs.Shown.{with_false, with_undecided, IsFirstFalsified};
+ghost use Rattle.clause_counters.specs.CounterState.{with_flag, IsSame};
+ghost use Rattle.clause_counters.specs.GroupedClauses.{GroupedClauses, Represents, StillRepresents};
+ghost use Rattle.clause_counters.specs.GroupedClauses.{empty, AddsGroup, AddsClause, row_literals};
+ghost use Rattle.clause_counters.specs.GroupedClauses.{with_false, with_undecided, IsFirstFalsified};
 
 use crate::adding::{count_open, join_groups, pad, place_literals};
 use crate::falsified_heap::FalsifiedHeap;
@@ -41,11 +42,11 @@ pub struct ClauseCounters<A: Allocator + Copy> {
 impl<A: Allocator + Copy> Model for ClauseCounters<A> {
     ghost use Rattle.std.specs.Prelude.{◌≡◌, ◌&&◌, length, vec_capacity};
     ghost use Rattle.clause_counters.specs.Counted.{IsPlaced, IsJoined};
-    ghost use Rattle.clause_counters.specs.Kept.{Kept, kept_in, fit_three};
+    ghost use Rattle.clause_counters.specs.CounterState.{CounterState, counters_in, fit_three};
 
-    ghost Value = { Kept };
+    ghost Value = { CounterState };
 
-    ghost view = { λ f. kept_in f.places.items f.literals.items f.members.items f.groups.items f.falsified.firsts
+    ghost view = { λ f. counters_in f.places.items f.literals.items f.members.items f.groups.items f.falsified.firsts
         (f.falsified.has_room && fit_three (length f.members.items) (vec_capacity f.members)) };
 
     ghost invariant = { λ f. IsPlaced f.places.items f.literals.items f.groups.items
@@ -56,7 +57,7 @@ impl<A: Allocator + Copy> Model for ClauseCounters<A> {
 impl<A: Allocator + Copy> ClauseCounters<A> {
     /// No group and no clause. Takes no memory.
     pub fn new(alloc: A) -> Self
-        ensures { (is_false : Lit → Bool) → Shows result (empty is_false) }
+        ensures { (is_false : Lit → Bool) → Represents result (empty is_false) }
     {
         ClauseCounters {
             alloc,
@@ -141,7 +142,7 @@ impl<A: Allocator + Copy> ClauseCounters<A> {
     /// clause had three.
     pub fn make_room(&mut self) -> Result<(), StoreError>
         ensures room { OnOk result (IsTrue self.new.has_room) }
-        ensures shown { KeepsShown self.old self.new }
+        ensures represents { StillRepresents self.old self.new }
         ensures groups { length self.new.groups ≡ length self.old.groups }
         ensures clauses { length self.new.firsts ≡ length self.old.firsts }
         ensures memory { IfErr result (λ e. e ≡ OutOfMemory) }
@@ -159,7 +160,7 @@ impl<A: Allocator + Copy> ClauseCounters<A> {
         requires room { IsTrue self.old.has_room }
         requires known { All (λ g. g < length self.old.groups) groups.now }
         requires few { length groups.now ≤ 3 }
-        ensures shown { AddsClause self.old groups.now first_of_parent result self.new }
+        ensures represents { AddsClause self.old groups.now first_of_parent result self.new }
         ensures number { result ≡ length self.old.firsts }
         ensures groups { length self.new.groups ≡ length self.old.groups }
         ensures clauses { length self.new.firsts ≡ length self.old.firsts + 1 }
@@ -172,7 +173,8 @@ impl<A: Allocator + Copy> ClauseCounters<A> {
 
     /// A literal becomes false: of one that is false nothing changes. Takes no memory.
     pub fn make_false(&mut self, literal: Literal)
-        ensures shown { (s : Shown) → Shows self.old s → Shows self.new (with_false literal s) }
+        ensures represents { (s : GroupedClauses) → Represents self.old s →
+            Represents self.new (with_false literal s) }
         ensures groups { length self.new.groups ≡ length self.old.groups }
     {
         self.close(literal.to_index());
@@ -180,7 +182,8 @@ impl<A: Allocator + Copy> ClauseCounters<A> {
 
     /// A literal becomes undecided: of one that isn't false nothing changes. Takes no memory.
     pub fn make_undecided(&mut self, literal: Literal)
-        ensures shown { (s : Shown) → Shows self.old s → Shows self.new (with_undecided literal s) }
+        ensures represents { (s : GroupedClauses) → Represents self.old s →
+            Represents self.new (with_undecided literal s) }
         ensures groups { length self.new.groups ≡ length self.old.groups }
     {
         self.reopen(literal.to_index());
@@ -188,8 +191,8 @@ impl<A: Allocator + Copy> ClauseCounters<A> {
 
     /// The number of the falsified clause that comes first, `None` if no clause is falsified. Takes no memory.
     pub fn first(&mut self) -> Option<u32>
-        ensures shown { KeepsShown self.old self.new }
-        ensures first { (s : Shown) → Shows self.old s → IsFirstFalsified s result }
+        ensures represents { StillRepresents self.old self.new }
+        ensures first { (s : GroupedClauses) → Represents self.old s → IsFirstFalsified s result }
         ensures groups { length self.new.groups ≡ length self.old.groups }
     {
         self.falsified.first()
@@ -197,7 +200,7 @@ impl<A: Allocator + Copy> ClauseCounters<A> {
 
     /// The literal with this index becomes false.
     fn close(&mut self, index: usize)
-        ensures { IsSame (told true index self.old) self.new }
+        ensures { IsSame (with_flag true index self.old) self.new }
     {
         if index >= self.literals.len() {
             return;
@@ -221,7 +224,7 @@ impl<A: Allocator + Copy> ClauseCounters<A> {
 
     /// The literal with this index becomes undecided.
     fn reopen(&mut self, index: usize)
-        ensures { IsSame (told false index self.old) self.new }
+        ensures { IsSame (with_flag false index self.old) self.new }
     {
         if index >= self.literals.len() {
             return;

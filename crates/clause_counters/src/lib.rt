@@ -36,11 +36,12 @@
 //! each place; a clause costs 16 bytes and 8 for each of its groups. The literals are a table by their indexes, 8 bytes
 //! each, up to the last one that stands in a group.
 //!
-//! A contract speaks of what is shown (`specs/Shown`): the literals of each group, the groups of each clause and the
-//! first clause of its parent, and which literals are false, as a function. What is kept `Shows` more than one such:
-//! they differ in the order of a clause's groups and of a group's literals, in how many times a group's list has a
-//! literal, and in which literals that stand nowhere are false. So the callers' function can be that of a trail. What
-//! "first" means is in `specs/First`. What the numbers count is the invariant (`specs/Counted`, `specs/FalsifiedHeap`).
+//! A contract speaks of what the counters represent (`specs/GroupedClauses`): the literals of each group, the groups
+//! of each clause and the first clause of its parent, and which literals are false, as a function. A state represents
+//! (`Shows`) more than one such: they differ in the order of a clause's groups and of a group's literals, in how many
+//! times a group's list has a literal, and in which literals that stand nowhere are false. So the callers' function can
+//! be that of a trail. What "first" means is in `specs/First`. What the numbers count is the invariant
+//! (`specs/Counted`, `specs/FalsifiedHeap`).
 #![tactic(auto)]
 
 mod adding;

@@ -2,7 +2,7 @@
 ghost use Rattle.std.specs.Prelude.{◌≡◌, ◌++◌, map, IfOk, OnOk, IfErr};
 ghost use Rattle.typed_ids.specs.declared.error.StoreError.TheVariants.{OutOfMemory};
 ghost use Rattle.decisions.specs.Literals.{Pos};
-ghost use Rattle.clause_counters.specs.Shown.{row_literals};
+ghost use Rattle.clause_counters.specs.GroupedClauses.{row_literals};
 
 use decisions::Literal;
 use std::alloc::Allocator;

@@ -11,7 +11,7 @@ use Rattle.clauses.specs.declared.clause.Clause.TheVariants.{Constrains, Constra
 use Rattle.clauses.specs.declared.clause.Clause.TheVariants.{ConstrainsParent, Lock, Learnt, Excluded, AnyOf}
 
 -- what clauses refer to by ids
-pub record Kept : Type 0 where
+pub record StoredLiterals : Type 0 where
   -- the literals of the learnt clauses
   pub learnt : List (List Lit)
   -- the variables of each requirement's candidates, one list a version set; no list where it wasn't loaded
@@ -20,24 +20,24 @@ pub record Kept : Type 0 where
   pub disjunctions : List (List Lit)
 
 -- the literals of a disjunction; none without one
-abbrev pub condition_literals : Kept → Option ℕ → List Lit
+abbrev pub condition_literals : StoredLiterals → Option ℕ → List Lit
 condition_literals k None = []
 condition_literals k (Some d) = unwrap_or (slice_get k.disjunctions d) []
 
 -- literals, and then those of candidates in lists
-abbrev pub asked_literals : List Lit → List (List ℕ) → List Lit
-asked_literals literals lists = literals ++ flat_map (map Pos) lists
+abbrev pub required_literals : List Lit → List (List ℕ) → List Lit
+required_literals literals lists = literals ++ flat_map (map Pos) lists
 
 -- the literals of a requires clause but its parent's: those of its disjunction, and then its candidates
-abbrev pub other_literals : Kept → Option ℕ → Requirement → List Lit
-other_literals k d r = asked_literals (condition_literals k d) (k.lists r)
+abbrev pub other_literals : StoredLiterals → Option ℕ → Requirement → List Lit
+other_literals k d r = required_literals (condition_literals k d) (k.lists r)
 
 -- the literals of a learnt clause
-abbrev pub learnt_literals : Kept → ℕ → List Lit
+abbrev pub learnt_literals : StoredLiterals → ℕ → List Lit
 learnt_literals k id = unwrap_or (slice_get k.learnt id) []
 
 -- the literals of a clause, in order
-abbrev pub literals_of : {N : Type 0} → Kept → Clause N → List Lit
+abbrev pub literals_of : {N : Type 0} → StoredLiterals → Clause N → List Lit
 literals_of k InstallRoot = Pos 0 ∷ []
 literals_of k (Requires parent d r) = Neg parent ∷ other_literals k d r
 literals_of k (ForbidMultipleInstances a l n) = Neg a ∷ l ∷ []
@@ -49,14 +49,14 @@ literals_of k (Learnt id) = learnt_literals k id
 literals_of k (Excluded a reason) = Neg a ∷ []
 literals_of k (AnyOf selected other) = Pos selected ∷ Neg other ∷ []
 
--- the literals of a clause that are kept by an id
-abbrev pub stored_literals : {N : Type 0} → Kept → Clause N → List Lit
+-- the literals of a clause that are stored by an id
+abbrev pub stored_literals : {N : Type 0} → StoredLiterals → Clause N → List Lit
 stored_literals k (Requires parent d r) = condition_literals k d
 stored_literals k (Learnt id) = learnt_literals k id
 stored_literals k _ = []
 
 -- the lists of a clause's candidates
-abbrev pub stored_lists : {N : Type 0} → Kept → Clause N → List (List ℕ)
+abbrev pub stored_lists : {N : Type 0} → StoredLiterals → Clause N → List (List ℕ)
 stored_lists k (Requires parent d r) = k.lists r
 stored_lists k _ = []
 
@@ -96,7 +96,7 @@ watch_ends [] = None
 watch_ends (l ∷ ls) = watch_beside l (slice_get (l ∷ ls) (length ls))
 
 -- what a new clause watches
-abbrev pub first_watches : {N : Type 0} → Kept → Values → Clause N → Option (List Lit)
+abbrev pub first_watches : {N : Type 0} → StoredLiterals → Values → Clause N → Option (List Lit)
 first_watches k val InstallRoot = None
 first_watches k val (Requires parent d r) = watch_beside (Neg parent) (first_not_false val (other_literals k d r))
 first_watches k val (ForbidMultipleInstances a l n) = watch_pair (Neg a) l
@@ -109,13 +109,13 @@ first_watches k val (Excluded a reason) = None
 first_watches k val (AnyOf selected other) = watch_pair (Pos selected) (Neg other)
 
 -- whether all these literals are false, and the parent isn't: where there are some
-abbrev pub is_met_by_parent : Values → ℕ → List Lit → Bool
-is_met_by_parent val parent [] = false
-is_met_by_parent val parent (l ∷ ls) = list_all (is_false_literal val) (l ∷ ls) && not (known_false (val parent))
+abbrev pub conflicts_with_parent : Values → ℕ → List Lit → Bool
+conflicts_with_parent val parent [] = false
+conflicts_with_parent val parent (l ∷ ls) = list_all (is_false_literal val) (l ∷ ls) && not (known_false (val parent))
 
--- whether a new clause is a conflict: it can't be met any more but by its first literal, which isn't true yet
-abbrev pub is_conflict : {N : Type 0} → Kept → Values → Clause N → Bool
-is_conflict k val (Requires parent d r) = is_met_by_parent val parent (other_literals k d r)
+-- whether a new clause is a conflict: only its first literal can satisfy it, and that isn't true yet
+abbrev pub is_conflict : {N : Type 0} → StoredLiterals → Values → Clause N → Bool
+is_conflict k val (Requires parent d r) = conflicts_with_parent val parent (other_literals k d r)
 is_conflict k val (Constrains a b v) = known_true (val b) && not (known_false (val a))
 is_conflict k val (ConstrainsParent a aux v) = known_true (val aux) && not (known_false (val a))
 is_conflict k val _ = false
@@ -126,7 +126,7 @@ is_other_watch watches index l = option_map_or (same_literal l) (slice_get watch
 
 -- what a clause may watch in place of the watch at the index: its first literal that isn't the other watch and isn't
 -- false; none for a binary clause
-abbrev pub next_unwatched : {N : Type 0} → Kept → Values → Clause N → List Lit → ℕ → Option Lit
+abbrev pub next_unwatched : {N : Type 0} → StoredLiterals → Values → Clause N → List Lit → ℕ → Option Lit
 next_unwatched k val clause watches index =
     if is_binary clause then None
     else find (λ l. not (is_other_watch watches index l) && not (is_false_literal val l)) (literals_of k clause)

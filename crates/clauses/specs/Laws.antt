@@ -2,7 +2,7 @@
 use Rattle.std.specs.Prelude.{◌≡◌, ◌≢◌, ⊤, List, [], ◌∷◌, Option, Some, None, Contains}
 use Rattle.decisions.specs.Literals.{Lit, Values}
 use Rattle.clauses.specs.declared.clause.Clause.{Clause}
-use Rattle.clauses.specs.Clauses.{Kept, literals_of, first_watches}
+use Rattle.clauses.specs.Clauses.{StoredLiterals, literals_of, first_watches}
 
 -- two different ones of these literals, or none
 abbrev pub AreTwoOf : List Lit → Option (List Lit) → Type 0
@@ -12,5 +12,5 @@ AreTwoOf literals (Some watches) =
 
 -- a new clause watches two different ones of its literals, or none
 abbrev pub FirstWatchesAreTwo : (N : Type 0) → Type 0
-FirstWatchesAreTwo N = (k : Kept) (now : Values) (clause : Clause N) →
+FirstWatchesAreTwo N = (k : StoredLiterals) (now : Values) (clause : Clause N) →
     AreTwoOf (literals_of k clause) (first_watches k now clause)

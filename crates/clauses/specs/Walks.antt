@@ -10,8 +10,8 @@ IsFirstTrue answers [] result = result ≡ None
 IsFirstTrue answers (x ∷ xs) result = (answers x true × (result ≡ Some x)) ⊎
     (answers x false × IsFirstTrue answers xs result)
 
--- the literals that a walk meets, in order
+-- the literals that a walk visits, in order
 abbrev pub literals_in : {A : Type 0} → LiteralWalk A → List Lit
 literals_in w = option_to_list w.first
     ++ (option_to_list w.second ++
-    (w.kept.now ++ (map Pos w.candidates.now ++ flat_map (map Pos) (map (λ l. l.items) w.lists.now))))
+    (w.stored.now ++ (map Pos w.candidates.now ++ flat_map (map Pos) (map (λ l. l.items) w.lists.now))))

@@ -5,8 +5,9 @@ ghost use Rattle.providers.specs.Requirement.{same_requirement};
 ghost use Rattle.providers.specs.declared.requirement.Requirement.{Requirement};
 ghost use Rattle.typed_ids.specs.declared.error.StoreError.TheVariants.{OutOfMemory};
 ghost use Rattle.decisions.specs.Literals.{Lit};
-ghost use Rattle.clauses.specs.Clauses.{Kept, is_binary, literals_of, asked_literals, stored_literals, stored_lists};
-ghost use Rattle.clauses.specs.Stored.{kept_in, lists_found};
+ghost use Rattle.clauses.specs.Clauses.{StoredLiterals, is_binary, literals_of};
+ghost use Rattle.clauses.specs.Clauses.{required_literals, stored_literals, stored_lists};
+ghost use Rattle.clauses.specs.Stored.{stored_in, lists_found};
 ghost use Rattle.clauses.specs.Walks.{IsFirstTrue, literals_in};
 
 use crate::disjunction::Disjunction;
@@ -77,7 +78,7 @@ impl<N> Clause<N> {
         disjunctions: &Arena<DisjunctionId, Disjunction<A>, A>,
     ) -> Result<Vec<Literal, A>, StoreError>
         ensures ok { IfOk result (λ literals. literals.items ≡
-            literals_of (kept_in learnt.now lists.now disjunctions.now) self.now) }
+            literals_of (stored_in learnt.now lists.now disjunctions.now) self.now) }
         ensures memory { IfErr result (λ e. e ≡ OutOfMemory) }
     {
         self.walk(learnt, lists, disjunctions).collect(alloc)
@@ -94,9 +95,9 @@ impl<N> Clause<N> {
     ) -> Option<Literal>
         requires { F.IsAlwaysCallable test }
         ensures first { IsFirstTrue (λ l b. F.post test l b)
-            (literals_of (kept_in learnt.now lists.now disjunctions.now) self.now) result }
+            (literals_of (stored_in learnt.now lists.now disjunctions.now) self.now) result }
         ensures tested { (passes : Lit → Bool) → ((l : Lit) (b : Bool) → F.post test l b → b ≡ passes l) →
-            result ≡ find passes (literals_of (kept_in learnt.now lists.now disjunctions.now) self.now) }
+            result ≡ find passes (literals_of (stored_in learnt.now lists.now disjunctions.now) self.now) }
     {
         match self {
             // Each of its literals is kept: it is no use to look at the other places.
@@ -112,13 +113,13 @@ impl<N> Clause<N> {
         lists: &'a RequirementMap<Vec<Vec<VariableId, A>, A>, A>,
         disjunctions: &'a Arena<DisjunctionId, Disjunction<A>, A>,
     ) -> LiteralWalk<'a, A>
-        ensures { literals_in result ≡ literals_of (kept_in learnt.now lists.now disjunctions.now) self.now }
+        ensures { literals_in result ≡ literals_of (stored_in learnt.now lists.now disjunctions.now) self.now }
     {
         let (first, second) = self.own_literals();
         LiteralWalk {
             first,
             second,
-            kept: self.stored_literals(learnt, disjunctions),
+            stored: self.stored_literals(learnt, disjunctions),
             candidates: &[],
             lists: self.stored_lists(lists),
         }
@@ -126,8 +127,8 @@ impl<N> Clause<N> {
 
     /// The literals that the clause has itself.
     fn own_literals(&self) -> (Option<Literal>, Option<Literal>)
-        ensures { (k : Kept) → literals_of k self.now ≡ option_to_list result.0 ++
-            (option_to_list result.1 ++ asked_literals (stored_literals k self.now) (stored_lists k self.now)) }
+        ensures { (k : StoredLiterals) → literals_of k self.now ≡ option_to_list result.0 ++
+            (option_to_list result.1 ++ required_literals (stored_literals k self.now) (stored_lists k self.now)) }
     {
         match self {
             Clause::InstallRoot => (Some(positive(VariableId::root())), None),
@@ -159,7 +160,7 @@ impl<N> Clause<N> {
         learnt: &'a Arena<LearntClauseId, Vec<Literal, A>, A>,
         disjunctions: &'a Arena<DisjunctionId, Disjunction<A>, A>,
     ) -> &'a [Literal]
-        ensures { (k : Kept) → k.learnt ≡ map (λ c. c.items) learnt.now →
+        ensures { (k : StoredLiterals) → k.learnt ≡ map (λ c. c.items) learnt.now →
             k.disjunctions ≡ map (λ d. d.literals.items) disjunctions.now →
             result.now ≡ stored_literals k self.now }
     {
@@ -178,7 +179,8 @@ impl<N> Clause<N> {
         &self,
         lists: &'a RequirementMap<Vec<Vec<VariableId, A>, A>, A>,
     ) -> &'a [Vec<VariableId, A>]
-        ensures { (k : Kept) → ((r : Requirement) → k.lists r ≡ lists_found (lookup (same_requirement r) lists.now)) →
+        ensures { (k : StoredLiterals) →
+            ((r : Requirement) → k.lists r ≡ lists_found (lookup (same_requirement r) lists.now)) →
             map (λ list. list.items) result.now ≡ stored_lists k self.now }
     {
         if let Clause::Requires(_, _, requirement) = self {

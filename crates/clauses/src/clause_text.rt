@@ -36,25 +36,25 @@ impl<N> Clause<N> {
         ensures memory { IfErr result (λ e. e ≡ OutOfMemory) }
     {
         let alloc = *out.allocator();
-        let shown = Shown {
+        let writer = ClauseWriter {
             variables,
             interner,
             alloc,
         };
-        let text = shown.clause(*self)?;
+        let text = writer.clause(*self)?;
         Ok(out.push_str(&text)?)
     }
 }
 
-/// Of what texts are made, and where.
+/// What the text of a clause is made of, and where.
 #[derive(Drop)]
-struct Shown<'a, I: Interner> {
+struct ClauseWriter<'a, I: Interner> {
     variables: &'a VariableMap<I::NameId, I::SolvableId, I::Alloc>,
     interner: &'a I,
     alloc: I::Alloc,
 }
 
-impl<I: Interner> Shown<'_, I> {
+impl<I: Interner> ClauseWriter<'_, I> {
     /// The text of a clause.
     fn clause(&self, clause: Clause<I::NameId>) -> Result<String<I::Alloc>, StoreError>
         requires { IsKnownClause (I.universe self.now.interner.now) self.now.variables.now clause }
@@ -156,9 +156,9 @@ impl<I: Interner> Shown<'_, I> {
     ) -> Result<String<I::Alloc>, StoreError>
         requires first { knows_variable (I.universe self.now.interner.now) self.now.variables.now first ≡ true }
         requires second { knows_variable (I.universe self.now.interner.now) self.now.variables.now second ≡ true }
-        ensures ok { let shown = numbered_variable (I.universe self.now.interner.now)
+        ensures ok { let writer = numbered_variable (I.universe self.now.interner.now)
             (I.texts self.now.interner.now) self.now.variables.now in
-            IfOk result (λ text. string_bytes text ≡ of_two kind.now (shown first) (shown second)) }
+            IfOk result (λ text. string_bytes text ≡ of_two kind.now (writer first) (writer second)) }
         ensures err { IfErr result (λ e. e ≡ OutOfMemory) }
     {
         let first = self.variable(first)?;
@@ -177,10 +177,10 @@ impl<I: Interner> Shown<'_, I> {
         requires first { knows_variable (I.universe self.now.interner.now) self.now.variables.now first ≡ true }
         requires second { knows_variable (I.universe self.now.interner.now) self.now.variables.now second ≡ true }
         requires set { (I.universe self.now.interner.now).knows_set set ≡ true }
-        ensures ok { let shown = numbered_variable (I.universe self.now.interner.now)
+        ensures ok { let writer = numbered_variable (I.universe self.now.interner.now)
             (I.texts self.now.interner.now) self.now.variables.now in
             IfOk result (λ text. string_bytes text ≡
-            of_three kind.now (shown first) (shown second) ((I.texts self.now.interner.now).version_set set)) }
+            of_three kind.now (writer first) (writer second) ((I.texts self.now.interner.now).version_set set)) }
         ensures err { IfErr result (λ e. e ≡ OutOfMemory) }
     {
         let first = self.variable(first)?;

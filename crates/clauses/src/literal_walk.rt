@@ -1,4 +1,4 @@
-//! Where the literals of a clause are kept, and walks over them.
+//! Where the literals of a clause are stored, and walks over them.
 ghost use Rattle.std.specs.Prelude.{◌≡◌, ◌++◌, Bool, map, flat_map, find, option_to_list, OnOk, IfOk, IfErr};
 ghost use Rattle.typed_ids.specs.declared.error.StoreError.TheVariants.{OutOfMemory};
 ghost use Rattle.decisions.specs.Literals.{Lit, Pos, Neg};
@@ -8,13 +8,13 @@ use decisions::Literal;
 use std::alloc::Allocator;
 use typed_ids::{StoreError, VariableId};
 
-/// The places of a clause's literals, in order: two that it may have itself, those that are kept for it, and those of
-/// candidates, where what is kept are variables.
+/// The places of a clause's literals, in order: two that it may have itself, those that are stored for it, and those of
+/// candidates, which are stored as variables.
 #[derive(Drop)]
 pub struct LiteralWalk<'a, A: Allocator> {
     pub first: Option<Literal>,
     pub second: Option<Literal>,
-    pub kept: &'a [Literal],
+    pub stored: &'a [Literal],
     pub candidates: &'a [VariableId],
     pub lists: &'a [Vec<VariableId, A>],
 }
@@ -30,7 +30,7 @@ impl<'a, A: Allocator> LiteralWalk<'a, A> {
         self.find_in_order(test)
     }
 
-    /// Asks place by place.
+    /// Tries place by place.
     fn find_in_order<F: Fn(Literal) -> bool>(&self, test: F) -> Option<Literal>
         requires { F.IsAlwaysCallable test }
         ensures { IsFirstTrue (λ l b. F.post test l b) (literals_in self.now) result }
@@ -41,7 +41,7 @@ impl<'a, A: Allocator> LiteralWalk<'a, A> {
         if let Some(literal) = find_own(self.second, &test) {
             return Some(literal);
         }
-        if let Some(literal) = find_kept(self.kept, &test) {
+        if let Some(literal) = find_stored(self.stored, &test) {
             return Some(literal);
         }
         if let Some(literal) = find_candidate(self.candidates, &test) {
@@ -62,7 +62,7 @@ impl<'a, A: Allocator> LiteralWalk<'a, A> {
         if let Some(literal) = self.second {
             literals.push(literal)?;
         }
-        literals.extend_from_slice(self.kept)?;
+        literals.extend_from_slice(self.stored)?;
         push_candidates(&mut literals, self.candidates)?;
         push_lists(&mut literals, self.lists)?;
         Ok(literals)
@@ -90,7 +90,7 @@ pub(crate) fn find_among<F: Fn(Literal) -> bool>(literals: &[Literal], test: F) 
     ensures tested { (passes : Lit → Bool) → ((l : Lit) (b : Bool) → F.post test l b → b ≡ passes l) →
         result ≡ find passes literals.now }
 {
-    find_kept(literals, &test)
+    find_stored(literals, &test)
 }
 
 fn find_own<F: Fn(Literal) -> bool>(literal: Option<Literal>, test: &F) -> Option<Literal>
@@ -103,7 +103,7 @@ fn find_own<F: Fn(Literal) -> bool>(literal: Option<Literal>, test: &F) -> Optio
     }
 }
 
-fn find_kept<F: Fn(Literal) -> bool>(literals: &[Literal], test: &F) -> Option<Literal>
+fn find_stored<F: Fn(Literal) -> bool>(literals: &[Literal], test: &F) -> Option<Literal>
     requires { F.IsAlwaysCallable test.now }
     ensures { IsFirstTrue (λ l b. F.post test.now l b) literals.now result }
 {

@@ -11,12 +11,12 @@ use Rattle.std.proofs.lemmas.Option.{slice_get_within, get_or_from_slice_get}
 use Rattle.typed_ids.specs.TotalMaps.{IsUpdate}
 use Rattle.decisions.specs.Decisions.{decision_in, values_in, level_in}
 use Rattle.decisions.specs.Tracker.{entries_of, IsTracked}
-use Rattle.decisions.specs.Trail.{Entry, Trail, val, level_of, clause_of, top_level, kept_until}
+use Rattle.decisions.specs.Trail.{Entry, Trail, val, level_of, clause_of, top_level, entries_until}
 use Rattle.decisions.specs.Trail.{HasLevel, IsTrail, IsWithin}
 use Rattle.decisions.specs.declared.decision.Decision.{Decision}
 use Rattle.decisions.proofs.TrailLemmas.{none_by_variable, val-push, take-push}
 use Rattle.decisions.proofs.TrailLemmas.{IsOnce-pop, IsTrail-push, IsTrail-pop}
-use Rattle.decisions.proofs.TrailLemmas.{kept_until-above, kept_until-within, top_level-push}
+use Rattle.decisions.proofs.TrailLemmas.{entries_until-above, entries_until-within, top_level-push}
 
 -- what a decision map holds
 abbrev MapItems : Type 0
@@ -147,9 +147,9 @@ module _ (old new : MapItems) (ds : List Decision) (d : Decision)
   entries_of-pop = rw (split, take-push (entries_of old ds) (entry old d)) unchanged
 
   -- of entries that stay where they aren't above a level, that one doesn't where it is
-  pub kept_until-pop : (l : ℕ) → l < level_in old d.variable
-      → kept_until l (entries_of new ds) ≡ kept_until l (entries_of old (ds ++ d ∷ []))
-  kept_until-pop l above = rw (split, unchanged) (sym (kept_until-above l (entries_of old ds) (entry old d) above))
+  pub entries_until-pop : (l : ℕ) → l < level_in old d.variable
+      → entries_until l (entries_of new ds) ≡ entries_until l (entries_of old (ds ++ d ∷ []))
+  entries_until-pop l above = rw (split, unchanged) (sym (entries_until-above l (entries_of old ds) (entry old d) above))
 
   -- the values without it
   values-pop : (x : ℕ) (b : Bool) → (d.variable == x) ≡ b → values_in new x ≡ val (entries_of old ds) x
@@ -168,15 +168,15 @@ module _ (old new : MapItems) (ds : List Decision) (d : Decision)
 -- ---- the newest decision stays
 
 -- all decisions do where the newest isn't above the level, which is that of the trail
-pub kept_until-entries_of : (decisions : MapItems) (ds : List Decision) (d : Decision) (l : ℕ)
+pub entries_until-entries_of : (decisions : MapItems) (ds : List Decision) (d : Decision) (l : ℕ)
     → level_in decisions d.variable ≤ l
-    → (entries_of decisions (ds ++ d ∷ []) ≡ kept_until l (entries_of decisions (ds ++ d ∷ [])))
+    → (entries_of decisions (ds ++ d ∷ []) ≡ entries_until l (entries_of decisions (ds ++ d ∷ [])))
     × (top_level (entries_of decisions (ds ++ d ∷ [])) ≤ l)
-kept_until-entries_of decisions ds d l within =
+entries_until-entries_of decisions ds d l within =
     let front = entries_of decisions ds in
     let top = top_level-push front (entry decisions d) in
     rw (map-append (entry decisions) ds (d ∷ []))
-    (sym (kept_until-within l front (entry decisions d) within), omega (arith, top, within))
+    (sym (entries_until-within l front (entry decisions d) within), omega (arith, top, within))
 
 -- the first decisions are those before the last of them, and that one
 pub take-last : (ds : List Decision) (count : ℕ) (d : Decision) → 0 < count → count ≤ length ds

@@ -8,7 +8,7 @@ use Rattle.std.proofs.lemmas.List.Elements.{All-push, All-take}
 use Rattle.std.proofs.lemmas.Bool.{eqb-false, lt-ltb, le-ltb}
 use Rattle.std.proofs.lemmas.List.Folds.{list_all-append}
 use Rattle.std.proofs.lemmas.Bool.Decides.{nat_tests}
-use Rattle.decisions.specs.Trail.{Entry, Trail, val, top_level, kept_until, IsOnce, HasLevel, IsTrail, IsWithin}
+use Rattle.decisions.specs.Trail.{Entry, Trail, val, top_level, entries_until, IsOnce, HasLevel, IsTrail, IsWithin}
 use Rattle.decisions.specs.Trail.{empty_trail}
 
 -- a test that gives no value failed
@@ -86,18 +86,18 @@ IsTrail-pop es e trail = record {
 }
 
 -- an entry above the level isn't kept
-pub kept_until-above : (l : ℕ) (es : List Entry) (e : Entry) → l < e.level → kept_until l (es ++ e ∷ []) ≡ kept_until l es
-kept_until-above l [] e above = rw (lt-ltb _ _ above) refl
-kept_until-above l (f ∷ es) e above =
+pub entries_until-above : (l : ℕ) (es : List Entry) (e : Entry) → l < e.level → entries_until l (es ++ e ∷ []) ≡ entries_until l es
+entries_until-above l [] e above = rw (lt-ltb _ _ above) refl
+entries_until-above l (f ∷ es) e above =
     let all = list_all-append (λ x. nat_lt l x.level) es (e ∷ []) in
-    rw (all, lt-ltb _ _ above, and-true, kept_until-above l es e above) refl
+    rw (all, lt-ltb _ _ above, and-true, entries_until-above l es e above) refl
 
 -- below an entry that isn't above the level each is kept
-pub kept_until-within : (l : ℕ) (es : List Entry) (e : Entry) → e.level ≤ l → kept_until l (es ++ e ∷ []) ≡ es ++ e ∷ []
-kept_until-within l [] e within = rw (le-ltb _ _ within) refl
-kept_until-within l (f ∷ es) e within =
+pub entries_until-within : (l : ℕ) (es : List Entry) (e : Entry) → e.level ≤ l → entries_until l (es ++ e ∷ []) ≡ es ++ e ∷ []
+entries_until-within l [] e within = rw (le-ltb _ _ within) refl
+entries_until-within l (f ∷ es) e within =
     let all = list_all-append (λ x. nat_lt l x.level) es (e ∷ []) in
-    rw (all, le-ltb _ _ within, and-false, and-false, kept_until-within l es e within) refl
+    rw (all, le-ltb _ _ within, and-false, and-false, entries_until-within l es e within) refl
 
 -- a trail is empty or has a newest entry
 newest_or_none : (es : List Entry) → (es ≡ []) ⊎ ((front : List Entry) × (e : Entry) × (es ≡ front ++ e ∷ []))

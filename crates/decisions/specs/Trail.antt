@@ -82,13 +82,13 @@ abbrev pub undo_last : Trail → Trail
 undo_last t = cut_to t (take (length t.entries - 1) t.entries)
 
 -- the entries without the longest tail whose levels are all above l
-abbrev pub kept_until : ℕ → List Entry → List Entry
-kept_until l [] = []
-kept_until l (e ∷ es) = if list_all (λ x. nat_lt l x.level) (e ∷ es) then [] else e ∷ kept_until l es
+abbrev pub entries_until : ℕ → List Entry → List Entry
+entries_until l [] = []
+entries_until l (e ∷ es) = if list_all (λ x. nat_lt l x.level) (e ∷ es) then [] else e ∷ entries_until l es
 
 -- the newest entries are taken back while their levels are above l
 abbrev pub undo_until : ℕ → Trail → Trail
-undo_until l t = cut_to t (kept_until l t.entries)
+undo_until l t = cut_to t (entries_until l t.entries)
 
 -- the entry that is propagated next
 abbrev pub next_entry : Trail → Option Entry

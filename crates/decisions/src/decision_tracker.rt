@@ -19,7 +19,7 @@ ghost use Rattle.std.specs.Prelude.{IsTrue, OnOk, OnErr, IfErr, vec_len, vec_cap
 ghost use Rattle.typed_ids.specs.declared.error.StoreError.TheVariants.{OutOfMemory};
 ghost use Rattle.decisions.specs.Decisions.{values_in, level_in};
 ghost use Rattle.decisions.specs.Tracker.{entries_of, IsTracked};
-ghost use Rattle.decisions.specs.Trail.{top_level, kept_until};
+ghost use Rattle.decisions.specs.Trail.{top_level, entries_until};
 
 use crate::decision::Decision;
 use crate::decision_map::DecisionMap;
@@ -264,7 +264,7 @@ fn drop_above<A: Allocator + Copy>(
 )
     requires tracked { IsTracked map.old stack.old.items }
     ensures tracked { IsTracked map.new stack.new.items }
-    ensures kept { entries_of map.new stack.new.items ≡ kept_until level (entries_of map.old stack.old.items) }
+    ensures kept { entries_of map.new stack.new.items ≡ entries_until level (entries_of map.old stack.old.items) }
     ensures within { top_level (entries_of map.new stack.new.items) ≤ level }
 {
     let kept = reset_above(map, stack, level);
@@ -279,7 +279,7 @@ fn reset_above<A: Allocator + Copy>(
 ) -> usize
     requires tracked { IsTracked map.old stack.now }
     ensures tracked { IsTracked map.new (take result stack.now) }
-    ensures kept { entries_of map.new (take result stack.now) ≡ kept_until level (entries_of map.old stack.now) }
+    ensures kept { entries_of map.new (take result stack.now) ≡ entries_until level (entries_of map.old stack.now) }
     ensures within { top_level (entries_of map.new (take result stack.now)) ≤ level }
 {
     let mut left = stack.len();

@@ -15,10 +15,6 @@ pub no_feed_next : (text : List ℕ) (i : ℕ) → i < length text → HasNoFeed
 no_feed_next text i lt h other =
     subst HasNoFeed (sym (take_more text i 0 lt)) (no_feed_more (take i text) (get_or text i 0) h (ne_eqb (get_or text i 0) 10 other))
 
--- a line feed is next
-pub fed_next : (text : List ℕ) (i : ℕ) → i < length text → HasNoFeed (take i text) → get_or text i 0 ≡ 10 → IsFed (take (i + 1) text)
-fed_next text i lt h is = (take i text, take_more text i 0 lt ∙ ap (λ b. take i text ++ b ∷ []) is, h)
-
 -- a text with no line feed is the beginning of its last line
 lines_unfed : (begun xs : List ℕ) → HasNoFeed xs → lines_from begun xs ≡ last_line (begun ++ xs)
 lines_unfed begun [] h = ap last_line (sym (append-nil begun))

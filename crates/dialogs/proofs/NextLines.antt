@@ -74,7 +74,7 @@ module _ {S : Type 0} (remaining : S → Option (List ℕ)) (reads fails : S →
   take_fails n s t held held' ended e made none is =
       subst (λ f. NextLineFails remaining reads fails ended s held f t) (sym is) (n, t, held', made, none, inl refl)
 
-  -- no line came in so many reads
+  -- no line came in n reads
   pub none_came : (n : ℕ) (s t : S) (held held' : List ℕ) (ended now : Bool) → 2 ^ 32 ≤ n → LineReads remaining reads fails n s held t held'
       → (ended ≡ true → (n ≡ 0) × (now ≡ true)) → NextLineFails remaining reads fails ended s held Device t
   none_came n s t held held' false now many made never = (refl, inr (n, held', many, made))

@@ -6,7 +6,7 @@ use Rattle.script_text.specs.declared.fault.ScriptFault.{ScriptFault}
 use Rattle.script_text.specs.declared.fault.ScriptFault.TheVariants.{Unreadable, Device, Memory}
 
 module _ {A : Type 0} (answers : A → List ℕ → List ℕ → A → Type 0) (refuses : A → List ℕ → Type 0) where
-  -- the lines, with so many before them, are answered by this text: each in its turn, up to the first unreadable line
+  -- the lines, with n lines before them, are answered by this text: each in its turn, up to the first unreadable line
   -- or the end. `faulty` is the number of the first unreadable line, if there is one
   abbrev pub AreAnswered : A → ℕ → List (List ℕ) → List ℕ → Option ℕ → Type 0
   AreAnswered a before [] text faulty = (text ≡ []) × (faulty ≡ None)

@@ -26,7 +26,7 @@ abbrev pub IsFed : List ℕ → Type 0
 IsFed line = (begun : List ℕ) × (line ≡ begun ++ 10 ∷ []) × HasNoFeed begun
 
 module _ {S : Type 0} (remaining : S → Option (List ℕ)) (reads fails : S → S → Type 0) where
-  -- so many reads are made, each because no line's end is held, and what they give is held too
+  -- n reads are made, each because no line's end is held, and what they give is held too
   abbrev pub LineReads : ℕ → S → List ℕ → S → List ℕ → Type 0
   LineReads zero s held t held' = (s ≡ t) × (held' ≡ held)
   LineReads (suc n) s held t held' =

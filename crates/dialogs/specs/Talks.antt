@@ -18,7 +18,7 @@ IsAnswered answers refuses remaining contents a first now =
     × Appends (contents first) (contents now) text))
 
 module _ {P : Type 0} (reads read_fails writes write_fails : P → P → Type 0) (ready : P → Type 0) where
-  -- so many calls lead from the one state to the other. A read is made only of a peer that is ready for it
+  -- n calls lead from the one state to the other. A read is made only of a peer that is ready for it
   abbrev pub Talks : ℕ → P → P → Type 0
   Talks zero s t = s ≡ t
   Talks (suc n) s t = (m : P) × Talks n s m × ((ready m × reads m t) ⊎ writes m t)

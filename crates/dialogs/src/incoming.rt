@@ -12,7 +12,7 @@ use std::mem;
 /// How many reads a line has to come in.
 const MOST_READS: u64 = 1 << 32;
 
-/// So many bytes are read at once.
+/// The number of bytes that are read at once.
 const PIECE: usize = 4096;
 
 /// What was read of a reader, and isn't taken yet.
@@ -65,7 +65,7 @@ impl Incoming {
         Err(ScriptFault::Device)
     }
 
-    /// Takes so many bytes.
+    /// Takes this many bytes.
     fn take(&mut self, count: usize) -> Result<Vec<u8>, ScriptFault>
         requires { count ≤ length self.old.held.items }
         ensures ok { IfOk result (λ line. (line.items ≡ take count self.old.held.items)
@@ -78,7 +78,7 @@ impl Incoming {
     }
 }
 
-/// Where the first line ends, behind its line feed, if it has one. There is none among so many bytes.
+/// Where the first line ends, behind its line feed, if it has one. There is none among the first `looked` bytes.
 fn line_end(text: &[u8], looked: usize) -> Option<usize>
     requires few { looked ≤ length text.now }
     requires none { HasNoFeed (take looked text.now) }

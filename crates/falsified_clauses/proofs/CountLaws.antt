@@ -11,9 +11,9 @@ use Rattle.decisions.specs.Literals.{Lit, Pos, Neg}
 use Rattle.decisions.specs.LiteralIndex.{literal_index}
 use Rattle.clauses.specs.Clauses.{same_literal}
 use Rattle.clauses.specs.declared.disjunction.Disjunction.{Disjunction}
-use Rattle.clause_counters.specs.Kept.{Kept}
-use Rattle.clause_counters.specs.Shown.{Shown, Shows, GroupClause, has_index, with_group, AddsGroup, AddsClause}
-use Rattle.clause_counters.specs.Shown as below
+use Rattle.clause_counters.specs.CounterState.{CounterState}
+use Rattle.clause_counters.specs.GroupedClauses.{GroupedClauses, Represents, GroupClause, has_index, with_group, AddsGroup, AddsClause}
+use Rattle.clause_counters.specs.GroupedClauses as below
 use Rattle.clause_counters.proofs.ShownLaws.{shows_same}
 use Rattle.falsified_clauses.specs.declared.demand.Demand.{Demand}
 use Rattle.falsified_clauses.specs.declared.group_key.GroupKey.{GroupKey}
@@ -21,17 +21,17 @@ use Rattle.falsified_clauses.specs.declared.group_key.GroupKey.TheVariants.{Cond
 use Rattle.falsified_clauses.specs.Clauses.{PlacedDemand, Lists, Counted, counted}
 use Rattle.falsified_clauses.specs.Clauses.{with_clause, with_false, with_undecided}
 use Rattle.falsified_clauses.specs.GroupKeys.{literals_of, IsKnown, keys_of, numbers_in, HasGroups, KeepsNumbers}
-use Rattle.falsified_clauses.specs.Counts.{KeyedCounters, Counts, IsReady, shown_by, group_clause}
+use Rattle.falsified_clauses.specs.Counts.{KeyedCounters, Counts, IsReady, grouped_by, group_clause}
 use Rattle.falsified_clauses.proofs.KeyLaws.{numbers_pushed}
 use Rattle.falsified_clauses.proofs.GroupLaws.{numbers_kept, numbers_there}
 
 -- ---- nothing
 
 pub counts_none : {A : Type 0} (lists : Lists A) (disjunctions : List (Disjunction A)) (is_false : Lit → Bool)
-    (v : Kept) → Shows v (below.empty is_false)
+    (v : CounterState) → Represents v (below.empty is_false)
     → Counts (record { keys = []; counters = v }) (counted lists disjunctions [] is_false)
 counts_none lists disjunctions is_false v shows = record {
-  shown = shows;
+  represents = shows;
   grouped = λ k d l. absurd (omega (arith, l));
   known = λ k d l. absurd (omega (arith, l));
 }
@@ -49,33 +49,33 @@ clauses_kept old new keeps (c ∷ cs) grouped =
     λ numbers. (record { groups = numbers; first_of_parent = c.first_of_parent }) ∷ map (group_clause new) cs in
     ap first head ∙ ap (λ more. group_clause old c ∷ more) rest
 
-module _ {A : Type 0} (kept : KeyedCounters) (v : Kept) (s : Counted A) (counts : Counts kept s) where
+module _ {A : Type 0} (kept : KeyedCounters) (v : CounterState) (s : Counted A) (counts : Counts kept s) where
   -- the counters keep something else, and show the same
-  pub counts_kept : Shows v (shown_by kept.keys s) → Counts (record { keys = kept.keys; counters = v }) s
-  counts_kept shows = record { shown = shows; grouped = counts.grouped; known = counts.known }
+  pub counts_kept : Represents v (grouped_by kept.keys s) → Counts (record { keys = kept.keys; counters = v }) s
+  counts_kept shows = record { represents = shows; grouped = counts.grouped; known = counts.known }
 
   -- the group of a key more
   pub counts_key : (key : GroupKey) → IsKnown s.lists s.disjunctions key
-      → Shows v (with_group (literals_of s.lists s.disjunctions key) (shown_by kept.keys s))
+      → Represents v (with_group (literals_of s.lists s.disjunctions key) (grouped_by kept.keys s))
       → Counts (record { keys = kept.keys ++ key ∷ []; counters = v }) s
   counts_key key is shows =
       let literals = literals_of s.lists s.disjunctions in
       let more = kept.keys ++ key ∷ [] in
       let keeps = numbers_pushed kept.keys key in
-      let of_groups : List (List Lit) → Shown = λ groups. record {
+      let of_groups : List (List Lit) → GroupedClauses = λ groups. record {
         groups = groups;
         clauses = map (group_clause kept.keys) s.clauses;
         is_false = s.is_false;
       } in
-      let of_clauses : List GroupClause → Shown = λ clauses. record {
+      let of_clauses : List GroupClause → GroupedClauses = λ clauses. record {
         groups = map literals more;
         clauses = clauses;
         is_false = s.is_false;
       } in
-      let same : with_group (literals key) (shown_by kept.keys s) ≡ shown_by more s =
+      let same : with_group (literals key) (grouped_by kept.keys s) ≡ grouped_by more s =
       ap of_groups (sym (map-append literals kept.keys (key ∷ [])))
       ∙ ap of_clauses (sym (clauses_kept kept.keys more keeps s.clauses counts.grouped)) in record {
-        shown = subst (Shows v) same shows;
+        represents = subst (Represents v) same shows;
         grouped = λ i d l. numbers_there kept.keys more keeps _ (counts.grouped i d l);
         known = All-push (IsKnown s.lists s.disjunctions) kept.keys key counts.known is;
       }
@@ -86,14 +86,14 @@ module _ {A : Type 0} (kept : KeyedCounters) (v : Kept) (s : Counted A) (counts 
       → Counts (record { keys = kept.keys; counters = v }) (with_clause clause first s)
   counts_added clause first groups numbers number ready same adds =
       let more : PlacedDemand = record { demand = clause; first_of_parent = first } in
-      let of_clauses : List GroupClause → Shown = λ clauses. record {
+      let of_clauses : List GroupClause → GroupedClauses = λ clauses. record {
         groups = map (literals_of s.lists s.disjunctions) kept.keys;
         clauses = clauses;
         is_false = s.is_false;
       } in
-      let shows = subst (λ ns. Shows v (below.with_clause ns first (shown_by kept.keys s)))
-      (same ∙ ready.numbers) (adds (shown_by kept.keys s) counts.shown).1 in record {
-        shown = subst (Shows v)
+      let shows = subst (λ ns. Represents v (below.with_clause ns first (grouped_by kept.keys s)))
+      (same ∙ ready.numbers) (adds (grouped_by kept.keys s) counts.represents).1 in record {
+        represents = subst (Represents v)
             (ap of_clauses (sym (map-append (group_clause kept.keys) s.clauses (more ∷ [])))) shows;
         grouped = All-push (λ (c : PlacedDemand). HasGroups kept.keys c.demand) s.clauses more
             counts.grouped ready.grouped;
@@ -106,7 +106,7 @@ module _ {A : Type 0} (kept : KeyedCounters) (v : Kept) (s : Counted A) (counts 
       → IsReady (record { keys = kept.keys; counters = v }) clause groups
   ready_is same room clause groups is has =
       let many : length v.groups ≡ length kept.keys =
-      same ∙ (counts.shown.size ∙ length-map kept.keys (literals_of s.lists s.disjunctions)) in record {
+      same ∙ (counts.represents.size ∙ length-map kept.keys (literals_of s.lists s.disjunctions)) in record {
         can_add = record {
           within = subst (All (λ group. group < length v.groups)) (sym is)
               (λ i d l. subst (λ n. get_or (numbers_in kept.keys clause) i d < n) (sym many) (has i d l));
@@ -119,7 +119,7 @@ module _ {A : Type 0} (kept : KeyedCounters) (v : Kept) (s : Counted A) (counts 
 -- ---- the literals of a group
 
 -- a group of the same literals
-pub adds_same : {E : Type 0} (old new : Kept) (is_false : Lit → Bool) (r : Result ℕ E) (ls ms : List Lit) → ls ≡ ms
+pub adds_same : {E : Type 0} (old new : CounterState) (is_false : Lit → Bool) (r : Result ℕ E) (ls ms : List Lit) → ls ≡ ms
     → IfOk r (λ group. AddsGroup old ls is_false group new) → IfOk r (λ group. AddsGroup old ms is_false group new)
 adds_same old new is_false r ls ms same adds =
     subst (λ l. IfOk r (λ group. AddsGroup old l is_false group new)) same adds
@@ -148,12 +148,12 @@ same_index (Neg v) (Neg w) = same_half v w (2 * v + 1) (2 * w + 1) (λ e. omega 
 same_index (Pos v) (Neg w) = ne_eqb (2 * w + 1) (2 * v) (omega arith)
 same_index (Neg v) (Pos w) = ne_eqb (2 * w) (2 * v + 1) (omega arith)
 
-module _ {A : Type 0} (keys : List GroupKey) (v : Kept) (s : Counted A) (l : Lit) where
-  pub shows_false : Shows v (below.with_false l (shown_by keys s)) → Shows v (shown_by keys (with_false l s))
-  shows_false shows = shows_same v (below.with_false l (shown_by keys s)) (with_false l s).is_false
+module _ {A : Type 0} (keys : List GroupKey) (v : CounterState) (s : Counted A) (l : Lit) where
+  pub shows_false : Represents v (below.with_false l (grouped_by keys s)) → Represents v (grouped_by keys (with_false l s))
+  shows_false shows = shows_same v (below.with_false l (grouped_by keys s)) (with_false l s).is_false
       (λ m. ap (λ b. b || s.is_false m) (same_index l m)) shows
 
-  pub shows_undecided : Shows v (below.with_undecided l (shown_by keys s))
-      → Shows v (shown_by keys (with_undecided l s))
-  shows_undecided shows = shows_same v (below.with_undecided l (shown_by keys s)) (with_undecided l s).is_false
+  pub shows_undecided : Represents v (below.with_undecided l (grouped_by keys s))
+      → Represents v (grouped_by keys (with_undecided l s))
+  shows_undecided shows = shows_same v (below.with_undecided l (grouped_by keys s)) (with_undecided l s).is_false
       (λ m. ap (λ b. not b && s.is_false m) (same_index l m)) shows

@@ -6,9 +6,9 @@ use Rattle.std.proofs.lemmas.List.{get_or-map, length-map}
 use Rattle.std.proofs.lemmas.List.Folds.{list_all-append, list_all-map}
 use Rattle.decisions.specs.Literals.{Lit, Pos, Neg}
 use Rattle.clauses.specs.Clauses.{condition_literals}
-use Rattle.clauses.specs.Stored.{kept_in}
-use Rattle.clause_counters.specs.Shown.{row_literals, shown_clause}
-use Rattle.clause_counters.specs.Shown as below
+use Rattle.clauses.specs.Stored.{stored_in}
+use Rattle.clause_counters.specs.GroupedClauses.{row_literals, grouped_clause}
+use Rattle.clause_counters.specs.GroupedClauses as below
 use Rattle.clause_counters.proofs.FirstLaws.{same_first_of}
 use Rattle.falsified_clauses.specs.declared.demand.Demand.{Demand}
 use Rattle.falsified_clauses.specs.declared.group_key.GroupKey.{GroupKey}
@@ -16,7 +16,7 @@ use Rattle.falsified_clauses.specs.declared.group_key.GroupKey.TheVariants.{Pare
 use Rattle.falsified_clauses.specs.Clauses.{PlacedDemand, Counted, no_clause, clause_at, rows}
 use Rattle.falsified_clauses.specs.GroupKeys.{literals_of, number_in, keys_under, HasGroups}
 use Rattle.falsified_clauses.specs.Falsified.{is_falsified_at, IsFirstFalsified}
-use Rattle.falsified_clauses.specs.Counts.{shown_by, group_clause}
+use Rattle.falsified_clauses.specs.Counts.{grouped_by, group_clause}
 use Rattle.falsified_clauses.proofs.KeyLaws.{read_at}
 
 -- all rows are false, list by list
@@ -51,7 +51,7 @@ three x y z a b c e f h =
 module _ {A : Type 0} (keys : List GroupKey) (s : Counted A) where
   -- whether the group with this number is false
   abbrev is_false_group : ℕ → Bool
-  is_false_group number = list_all s.is_false (below.literals_of (shown_by keys s) number)
+  is_false_group number = list_all s.is_false (below.literals_of (grouped_by keys s) number)
 
   group_false : (key : GroupKey) → number_in keys key < length keys
       → is_false_group (number_in keys key) ≡ list_all s.is_false (literals_of s.lists s.disjunctions key)
@@ -60,7 +60,7 @@ module _ {A : Type 0} (keys : List GroupKey) (s : Counted A) where
   falsified_under : (condition : Option ℕ) (clause : Demand)
       → All (λ number. number < length keys) (map (number_in keys) (keys_under condition clause))
       → list_all is_false_group (map (number_in keys) (keys_under condition clause)) ≡ (s.is_false (Neg clause.parent)
-      && list_all s.is_false (condition_literals (kept_in [] [] s.disjunctions) condition)
+      && list_all s.is_false (condition_literals (stored_in [] [] s.disjunctions) condition)
       && list_all (list_all (λ row. s.is_false (Pos row))) (rows s.lists clause.requirement))
   falsified_under None clause has =
       two _ _ (s.is_false (Neg clause.parent)) _ (group_false (Parent clause.parent) (has 0 0 (omega arith)))
@@ -74,19 +74,19 @@ module _ {A : Type 0} (keys : List GroupKey) (s : Counted A) where
 
   module _ (grouped : All (λ (c : PlacedDemand). HasGroups keys c.demand) s.clauses) where
     -- a clause, as the counters show it
-    shown_is : (c : ℕ) → c < length s.clauses → shown_clause (shown_by keys s) c ≡ group_clause keys (clause_at s c)
+    shown_is : (c : ℕ) → c < length s.clauses → grouped_clause (grouped_by keys s) c ≡ group_clause keys (clause_at s c)
     shown_is c l = get_or-map (group_clause keys) s.clauses c no_clause below.no_clause l
 
-    falsified_is : (c : ℕ) → c < length s.clauses → below.is_falsified (shown_by keys s) c ≡ is_falsified_at s c
+    falsified_is : (c : ℕ) → c < length s.clauses → below.is_falsified (grouped_by keys s) c ≡ is_falsified_at s c
     falsified_is c l =
         ap (λ (x : below.GroupClause). list_all is_false_group x.groups) (shown_is c l)
         ∙ falsified_under (clause_at s c).demand.condition (clause_at s c).demand (grouped c no_clause l)
 
     -- the first that the counters show is the first
-    pub first_is : (answer : Option ℕ) → below.IsFirstFalsified (shown_by keys s) answer → IsFirstFalsified s answer
+    pub first_is : (answer : Option ℕ) → below.IsFirstFalsified (grouped_by keys s) answer → IsFirstFalsified s answer
     first_is answer first =
-        same_first_of (λ c. (shown_clause (shown_by keys s) c).first_of_parent) (λ c. (clause_at s c).first_of_parent)
+        same_first_of (λ c. (grouped_clause (grouped_by keys s) c).first_of_parent) (λ c. (clause_at s c).first_of_parent)
         (length (map (group_clause keys) s.clauses)) (length s.clauses)
-        (below.is_falsified (shown_by keys s)) (is_falsified_at s) answer
+        (below.is_falsified (grouped_by keys s)) (is_falsified_at s) answer
         (λ c l. ap (λ (x : below.GroupClause). x.first_of_parent) (shown_is c l))
         (length-map s.clauses (group_clause keys)) falsified_is first

@@ -118,7 +118,7 @@ all_none parents conditions sets unions no_parent no_condition no_set no_union (
 pub put_at : (old now new : Tables) (key at : GroupKey) (slot : Option ℕ) (number : ℕ) → old ≡ now → key ≡ at
     → slot ≡ Some number → IsUpdate (number_of old) at slot (number_of new)
     → IsUpdate (number_of now) key (Some number) (number_of new)
-put_at old now new key at slot number shown is holds put =
-    subst (λ t. IsUpdate (number_of t) key (Some number) (number_of new)) shown
+put_at old now new key at slot number represents is holds put =
+    subst (λ t. IsUpdate (number_of t) key (Some number) (number_of new)) represents
     (subst (λ k. IsUpdate (number_of old) k (Some number) (number_of new)) (sym is)
     (subst (λ s. IsUpdate (number_of old) at s (number_of new)) holds put))

@@ -13,13 +13,13 @@ use Rattle.providers.specs.declared.requirement.Requirement.{Requirement}
 use Rattle.decisions.specs.Literals.{Lit}
 use Rattle.clauses.specs.Stored.{lists_found}
 use Rattle.clauses.specs.declared.disjunction.Disjunction.{Disjunction}
-use Rattle.clause_counters.specs.Shown.{Shown, Shows, row_literals}
+use Rattle.clause_counters.specs.GroupedClauses.{GroupedClauses, Represents, row_literals}
 use Rattle.clause_counters.proofs.ShownLaws.{shows_same}
 use Rattle.falsified_clauses.specs.declared.group_key.GroupKey.{GroupKey}
 use Rattle.falsified_clauses.specs.declared.group_key.GroupKey.TheVariants.{Parent, Condition, Rows}
 use Rattle.falsified_clauses.specs.Clauses.{Lists, Counted}
 use Rattle.falsified_clauses.specs.GroupKeys.{literals_of, IsKnown}
-use Rattle.falsified_clauses.specs.Counts.{KeyedCounters, Counts, shown_by, group_clause}
+use Rattle.falsified_clauses.specs.Counts.{KeyedCounters, Counts, grouped_by, group_clause}
 
 -- two functions that say the same of each element of a list
 map_same : {X Y : Type 0} (f g : X → Y) (xs : List X) → All (λ x. f x ≡ g x) xs → map f xs ≡ map g xs
@@ -34,7 +34,7 @@ module _ {A : Type 0} (kept : KeyedCounters) (s : Counted A) (counts : Counts ke
   pub counts_falses : (is_false : Lit → Bool) → ((l : Lit) → s.is_false l ≡ is_false l)
       → Counts kept (record s { is_false = is_false })
   counts_falses is_false same = record {
-    shown = shows_same kept.counters (shown_by kept.keys s) is_false same counts.shown;
+    represents = shows_same kept.counters (grouped_by kept.keys s) is_false same counts.represents;
     grouped = counts.grouped;
     known = counts.known;
   }
@@ -45,14 +45,14 @@ module _ {A : Type 0} (kept : KeyedCounters) (s : Counted A) (counts : Counts ke
       × (literals_of s.lists s.disjunctions key ≡ literals_of lists disjunctions key))
       → Counts kept (record s { lists = lists; disjunctions = disjunctions })
   counts_loaded lists disjunctions same =
-      let of_groups : List (List Lit) → Shown = λ groups. record {
+      let of_groups : List (List Lit) → GroupedClauses = λ groups. record {
         groups = groups;
         clauses = map (group_clause kept.keys) s.clauses;
         is_false = s.is_false;
       } in record {
-        shown = subst (λ groups. Shows kept.counters (of_groups groups))
+        represents = subst (λ groups. Represents kept.counters (of_groups groups))
             (map_same (literals_of s.lists s.disjunctions) (literals_of lists disjunctions) kept.keys
-            (λ i d l. (same _ (counts.known i d l)).1)) counts.shown;
+            (λ i d l. (same _ (counts.known i d l)).1)) counts.represents;
         grouped = counts.grouped;
         known = λ i d l. (same _ (counts.known i d l)).0;
       }

@@ -1,6 +1,5 @@
 mod ByHand
 pub mod CountLaws
-pub mod DecisionLaws
 pub mod FalsifiedLaws
 pub mod GroupLaws
 pub mod IndexLaws

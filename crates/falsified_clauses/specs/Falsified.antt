@@ -3,7 +3,7 @@ use Rattle.std.specs.Prelude.{ℕ, Bool, ◌&&◌, [], length, Option}
 use Rattle.std.specs.List.{list_all}
 use Rattle.decisions.specs.Literals.{Pos, Neg}
 use Rattle.clauses.specs.Clauses.{condition_literals}
-use Rattle.clauses.specs.Stored.{kept_in}
+use Rattle.clauses.specs.Stored.{stored_in}
 use Rattle.clause_counters.specs.First.{IsFirstOf}
 use Rattle.falsified_clauses.specs.declared.demand.Demand.{Demand}
 use Rattle.falsified_clauses.specs.Clauses.{Counted, clause_at, rows}
@@ -12,7 +12,7 @@ module _ {A : Type 0} (s : Counted A) where
   -- its parent's negation is false, and so is each literal of its condition's disjunction, and each row
   abbrev pub is_falsified : Demand → Bool
   is_falsified clause = s.is_false (Neg clause.parent)
-      && list_all s.is_false (condition_literals (kept_in [] [] s.disjunctions) clause.condition)
+      && list_all s.is_false (condition_literals (stored_in [] [] s.disjunctions) clause.condition)
       && list_all (list_all (λ row. s.is_false (Pos row))) (rows s.lists clause.requirement)
 
   -- whether the clause with this number is falsified

@@ -6,9 +6,9 @@ use Rattle.std.specs.Map.{lookup}
 use Rattle.providers.specs.Requirement.{same_requirement}
 use Rattle.decisions.specs.Literals.{Lit, Neg}
 use Rattle.clauses.specs.Clauses.{condition_literals}
-use Rattle.clauses.specs.Stored.{kept_in}
+use Rattle.clauses.specs.Stored.{stored_in}
 use Rattle.clauses.specs.declared.disjunction.Disjunction.{Disjunction}
-use Rattle.clause_counters.specs.Shown.{row_literals}
+use Rattle.clause_counters.specs.GroupedClauses.{row_literals}
 use Rattle.falsified_clauses.specs.declared.demand.Demand.{Demand}
 use Rattle.falsified_clauses.specs.declared.group_key.GroupKey.{GroupKey}
 use Rattle.falsified_clauses.specs.declared.group_key.GroupKey.TheVariants.{Parent, Condition, Rows}
@@ -18,7 +18,7 @@ module _ {A : Type 0} (lists : Lists A) (disjunctions : List (Disjunction A)) wh
   -- the literals of a key's group
   abbrev pub literals_of : GroupKey → List Lit
   literals_of (Parent parent) = Neg parent ∷ []
-  literals_of (Condition d) = condition_literals (kept_in [] [] disjunctions) (Some d)
+  literals_of (Condition d) = condition_literals (stored_in [] [] disjunctions) (Some d)
   literals_of (Rows requirement) = row_literals (rows lists requirement)
 
   -- what the key names is there

@@ -3,7 +3,7 @@ ghost use Rattle.std.specs.Prelude.{◌≡◌, ◌+◌, length, IfOk, OnOk, OnEr
 ghost use Rattle.typed_ids.specs.declared.error.StoreError.TheVariants.{OutOfMemory};
 ghost use Rattle.decisions.specs.Decisions.{values_in};
 ghost use Rattle.decisions.specs.Literals.{is_false_literal};
-ghost use Rattle.clause_counters.specs.Shown.{AddsGroup};
+ghost use Rattle.clause_counters.specs.GroupedClauses.{AddsGroup};
 ghost use Rattle.falsified_clauses.specs.GroupKeys.{literals_of, IsKnown};
 
 use crate::group_key::GroupKey;

@@ -2,7 +2,7 @@
 use Rattle.std.specs.Prelude.{ℕ, Bool, ◌+◌, ◌-◌, ◌*◌, ◌/◌, ◌^◌, if◌then◌else◌, min}
 
 -- the map that has the scores, of the type M, and the largest of them
-pub record Kept (M : Type 0) : Type 0 where
+pub record ScoreState (M : Type 0) : Type 0 where
   pub map : M
   pub largest : ℕ
 

@@ -25,9 +25,9 @@ pub struct Scores<N: SolverId<A>, A: Allocator + Copy> {
 impl<N: SolverId<A>, A: Allocator + Copy> Model for Scores<N, A> {
     ghost use Rattle.std.specs.Ordering.{nat_cmp};
     ghost use Rattle.typed_ids.specs.TotalMaps.{IsLargest};
-    ghost use Rattle.id_maps.specs.Scores.{Kept};
+    ghost use Rattle.id_maps.specs.Scores.{ScoreState};
 
-    ghost Value = { Kept N.Scores };
+    ghost Value = { ScoreState N.Scores };
 
     ghost view = { λ s. record { map = s.map; largest = s.largest } };
 

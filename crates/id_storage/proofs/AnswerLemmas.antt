@@ -15,7 +15,7 @@ use Rattle.std.proofs.lemmas.Option.{slice_get-map}
 use Rattle.std.proofs.lemmas.Map.Entries.{length-keys_of}
 use Rattle.std.proofs.lemmas.Map.Keys.{IsDistinct-push}
 use Rattle.typed_ids.specs.TotalMaps.{IsUpdate, SameValues}
-use Rattle.id_storage.specs.KeptAnswers.{place_of, lacks_answer, AreKept}
+use Rattle.id_storage.specs.StoredAnswers.{place_of, lacks_answer, AreStored}
 
 module _ {K V : Type 0} (test : K → Bool) where
   -- a question has a place exactly where it has an answer
@@ -102,7 +102,7 @@ no_answer same kept key none = none_from _ (sym (has_place (same key) 0 kept) �
 
 -- a place is below the limit, and a slot's number
 pub place_below : {K V : Type 0} (same : K → K → Bool) (IsId : K → Type 0) (limit : ℕ) (slots : K → Option ℕ) (kept : List (K × V)) (key : K) (p : ℕ)
-    → AreKept same IsId limit slots kept → place_of same kept key ≡ Some p → (p < length kept) × (p < limit)
+    → AreStored same IsId limit slots kept → place_of same kept key ≡ Some p → (p < length kept) × (p < limit)
 place_below same IsId limit slots kept key p are at =
     let within : p < length (keys_of kept) = (place_is (same key) p (keys_of kept) at).1 in
     let size : length (keys_of kept) ≡ length kept = length-keys_of kept in
@@ -110,9 +110,9 @@ place_below same IsId limit slots kept key p are at =
     (omega arith, omega arith)
 
 -- the same places belong to the same answers
-pub AreKept-same : {K V : Type 0} (same : K → K → Bool) (IsId : K → Type 0) (limit : ℕ) (f g : K → Option ℕ) (kept : List (K × V)) → SameValues f g
-    → AreKept same IsId limit f kept → AreKept same IsId limit g kept
-AreKept-same same IsId limit f g kept alike are =
+pub AreStored-same : {K V : Type 0} (same : K → K → Bool) (IsId : K → Type 0) (limit : ℕ) (f g : K → Option ℕ) (kept : List (K × V)) → SameValues f g
+    → AreStored same IsId limit f kept → AreStored same IsId limit g kept
+AreStored-same same IsId limit f g kept alike are =
     record { agrees = λ key. alike key ∙ are.agrees key; few = are.few; distinct = are.distinct; ids = are.ids }
 
 -- a question more, which has no answer yet, differs from all others
@@ -122,11 +122,11 @@ distinct-push same laws kept key distinct none =
     IsDistinct-push laws (keys_of kept) key distinct (is_among (same key) kept ∙ ap is_some none)
 
 -- an answer more, for which the next place was put
-pub AreKept-push : {K V : Type 0} (same : K → K → Bool) → IsEquivalence same → ((a b : K) → same a b ≡ true → a ≡ b)
+pub AreStored-push : {K V : Type 0} (same : K → K → Bool) → IsEquivalence same → ((a b : K) → same a b ≡ true → a ≡ b)
     → (IsId : K → Type 0) (limit m : ℕ) (f g h : K → Option ℕ) (kept : List (K × V)) (key : K) (value : V) → m ≡ length kept → m < min limit (2 ^ 32)
-    → AreKept same IsId limit f kept → SameValues f g → lookup (same key) kept ≡ None → IsId key → IsUpdate g key (Some m) h
-    → AreKept same IsId limit h (kept ++ (key, value) ∷ [])
-AreKept-push {K} {V} same laws is_sameness IsId limit m f g h kept key value size below are alike none id put =
+    → AreStored same IsId limit f kept → SameValues f g → lookup (same key) kept ≡ None → IsId key → IsUpdate g key (Some m) h
+    → AreStored same IsId limit h (kept ++ (key, value) ∷ [])
+AreStored-push {K} {V} same laws is_sameness IsId limit m f g h kept key value size below are alike none id put =
     record {
       agrees = λ other. by_test other (same other key) refl ∙ sym (ap (position_from (same other) 0) pushed);
       few = simp length-append (omega arith);
@@ -156,18 +156,12 @@ AreKept-push {K} {V} same laws is_sameness IsId limit m f g h kept key value siz
 -- where no more than 2^32 ids differ, fewer questions than that have answers while one has none
 pub fewer_kept : {K V : Type 0} (same : K → K → Bool) → IsEquivalence same → (IsId : K → Type 0) (are_many : Bool)
     → (are_many ≡ false → (ids : List K) → All IsId ids → IsDistinct same ids → length ids ≤ 2 ^ 32)
-    → (limit : ℕ) (slots : K → Option ℕ) (kept : List (K × V)) (key : K) → AreKept same IsId limit slots kept → IsId key
+    → (limit : ℕ) (slots : K → Option ℕ) (kept : List (K × V)) (key : K) → AreStored same IsId limit slots kept → IsId key
     → lookup (same key) kept ≡ None → are_many ≡ false → length kept < 2 ^ 32
 fewer_kept same laws IsId are_many law limit slots kept key are id none few =
     let within : length (keys_of kept ++ key ∷ []) ≤ 2 ^ 32 =
     law few (keys_of kept ++ key ∷ []) (All-push IsId (keys_of kept) key are.ids id) (distinct-push same laws kept key are.distinct none) in
     omega (arith, length-append (keys_of kept) (key ∷ []), length-keys_of kept)
-
-pub not_lacking : {K : Type 0} (limit : ℕ) (is_large : K → Bool) (count : ℕ) (key : K) → count < min limit (2 ^ 32) → is_large key ≡ false
-    → lacks_answer limit is_large count key ≡ false
-not_lacking limit is_large count key below fits =
-    let out : leb (min limit (2 ^ 32)) count ≡ false = grind (arith, nat_tests) in
-    ap (λ b. b || is_large key) out ∙ fits
 
 -- ---- another value in the place of an answer
 
@@ -197,10 +191,10 @@ answer_earlier same kept key p x at is =
     sym (answer_at same kept key p at) ∙ slice_get-map (λ e. e.1) kept p ∙ ap (option_map (λ e. e.1)) is
 
 -- the questions are the same
-pub AreKept-replaced : {K V : Type 0} (same : K → K → Bool) (IsId : K → Type 0) (limit : ℕ) (slots : K → Option ℕ)
+pub AreStored-replaced : {K V : Type 0} (same : K → K → Bool) (IsId : K → Type 0) (limit : ℕ) (slots : K → Option ℕ)
     (kept : List (K × V)) (test : K → Bool) (value : V)
-    → AreKept same IsId limit slots kept → AreKept same IsId limit slots (set_value test kept value)
-AreKept-replaced same IsId limit slots kept test value are =
+    → AreStored same IsId limit slots kept → AreStored same IsId limit slots (set_value test kept value)
+AreStored-replaced same IsId limit slots kept test value are =
     let questions = sym (keys-set_value test kept value) in
     record {
       agrees = λ other. are.agrees other ∙ ap (position_from (same other) 0) questions;
@@ -217,6 +211,6 @@ answer_has_place same kept key some none =
 
 -- no answers
 pub none_kept : {K V : Type 0} (same : K → K → Bool) (IsId : K → Type 0) (limit : ℕ) (slots : K → Option ℕ) → ((key : K) → slots key ≡ None)
-    → AreKept {K = K} {V = V} same IsId limit slots []
+    → AreStored {K = K} {V = V} same IsId limit slots []
 unfolding IsDistinct
 none_kept same IsId limit slots none = record { agrees = none; few = omega arith; distinct = tt; ids = All-nil IsId }

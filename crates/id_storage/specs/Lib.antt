@@ -1,4 +1,4 @@
 pub mod Arena
-pub mod KeptAnswers
+pub mod StoredAnswers
 pub mod Mapping
 pub mod MappingLends

@@ -23,7 +23,7 @@ module _ {V : Type 0} where
   abbrev pub AreBelow : ℕ → List (Option V) → Type 0
   AreBelow limit slots = (index : ℕ) → IsSome (value_at slots index) → index < limit
 
-  -- so many slots at least, where those that are added are empty
+  -- `count` slots at least, where those that are added are empty
   abbrev pub with_slots : List (Option V) → ℕ → List (Option V)
   with_slots slots count = slots ++ replicate (count - length slots) None
 
@@ -41,7 +41,7 @@ module _ {V : Type 0} where
   abbrev pub pairs : {K : Type 0} → (ℕ → K) → List (Option V) → List (K × V)
   pairs id_at slots = pairs_from id_at 0 slots
 
-  -- whole chunks, one of them at least, with so many values, each below the limit
+  -- whole chunks, one of them at least, with `count` values, each below the limit
   pub record IsMapping (limit : ℕ) (slots : List (Option V)) (count : ℕ) : Type 0 where
     pub whole : length slots % 128 ≡ 0
     pub chunk : 128 ≤ length slots

@@ -44,7 +44,7 @@ impl<TId: DenseIndex, V, A: Allocator> Arena<TId, V, A> {
         }
     }
 
-    /// The arena without values, with room for so many.
+    /// An arena without values, with room for `capacity` values.
     pub fn with_capacity(alloc: A, capacity: usize) -> Result<Self, StoreError>
         ensures ok { IfOk result (λ arena. arena ≡ []) }
         ensures refused { IfErr result (IsGrowthRefusal (nat_lt (2 ^ 40) capacity)) }

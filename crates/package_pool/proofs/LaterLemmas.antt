@@ -30,9 +30,6 @@ kept_before [] more place x h = absurd (grind arith)
 kept_before (k ∷ ks) more zero x h = h
 kept_before (k ∷ ks) more (suc place) x h = kept_before ks more place x h
 
-pub extended_keeps : {X : Type 0} (old new : List X) → IsExtended old new → (place : ℕ) (x : X) → slice_get old place ≡ Some x → slice_get new place ≡ Some x
-extended_keeps old new h place x e = rw h.1 (kept_before old h.0 place x e)
-
 module _ {N VS V : Type 0} (p : Lists N VS V) where
   pub later_itself : IsLater p p
   later_itself =

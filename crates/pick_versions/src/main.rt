@@ -1,19 +1,19 @@
 //! An example: a program that picks versions, by the search of `picking`.
 //!
-//! It reads indexes from standard input, in the format of `small_index`. For each it prints who asks, the name of its
-//! first line, and what that line asks for: a line for each version that is picked; or `none` where nothing serves, and
-//! below it why, a line for each thing that is needed or limited there.
-//! Where it gives up, or a line is unreadable, it says so, and goes on with the next index. The first line's own
-//! version is picked only where another one needs it, and what it limits counts only then. The exit status tells what
-//! became of the worst index: [`Outcome`] has the numbers.
+//! It reads indexes from standard input, in the format of `example_index`. For each it prints the requester, the name of
+//! its first line, and a solution of what that line requires: a line for each version that is picked; or `none` if
+//! there is no solution, and below it why, a line for each thing that is needed or limited there.
+//! If it gives up, or a line is unreadable, it says so, and goes on with the next index. The first line's own version
+//! is picked only if another one needs it, and what it limits counts only then. The exit status is that of the worst
+//! index: [`Outcome`] has the numbers.
 #![tactic(auto)]
 
 ghost use Rattle.std.specs.Prelude.{◌≡◌};
 ghost use Rattle.std.specs.Process.{exit_status};
-ghost use Rattle.picking_text.specs.Status.{status_of};
+ghost use Rattle.example_answers.specs.Status.{status_of};
 
 use anyhow::Result;
-use picking_text::Outcome;
+use example_answers::Outcome;
 use std::alloc::Global;
 use std::io::Read;
 use std::process::ExitCode;
@@ -43,13 +43,13 @@ fn answer_all(rt: &impl Print, alloc: Global, reader: &mut impl Read) -> Result<
     let mut input = Vec::new(alloc);
     reader.read_to_end(&mut input)?;
     let mut worst = Outcome::Picked;
-    for (place, lines) in small_index::split(alloc, &input)?.iter().enumerate() {
+    for (place, lines) in example_index::split(alloc, &input)?.iter().enumerate() {
         if place > 0 {
             println!(rt)?;
         }
-        let told = picking_text::answer(alloc, lines, STEPS)?;
-        print!(rt; "{}", told.text)?;
-        worst = worst.worse(told.outcome);
+        let answered = example_answers::answer(alloc, lines, STEPS)?;
+        print!(rt; "{}", answered.text)?;
+        worst = worst.worse(answered.outcome);
     }
     Ok(worst)
 }

@@ -2,22 +2,22 @@
 use Rattle.std.specs.Prelude.{List, ⊤}
 use Rattle.resolvo_pool.specs.Functions.{Provider}
 use Rattle.resolvo_pool.specs.Types.ConditionalRequirement.{ConditionalRequirement}
-use Rattle.serving.specs.Serves.{Serves, IsUnsolvable}
+use Rattle.solutions.specs.Solutions.{IsSolution, IsUnsolvable}
 use Rattle.picking.specs.declared.finding.Answer.{Answer}
-use Rattle.picking.specs.declared.finding.Answer.TheVariants.{Picked, Unsolvable, Unshown, StepsUsed, Refuted}
+use Rattle.picking.specs.declared.finding.Answer.TheVariants.{Picked, Unsolvable, Uncertified, StepsUsed, NotASolution}
 
--- what is picked serves
+-- what is picked is a solution
 abbrev pub IsSound : {N S A : Type 0} → Provider N S → List ConditionalRequirement → Answer N S A → Type 0
-IsSound p wanted (Picked solvables) = Serves p wanted solvables.items
-IsSound p wanted (Unsolvable reasons) = ⊤
-IsSound p wanted (Unshown reasons) = ⊤
-IsSound p wanted StepsUsed = ⊤
-IsSound p wanted Refuted = ⊤
+IsSound p requested (Picked solvables) = IsSolution p requested solvables.items
+IsSound p requested (Unsolvable reasons) = ⊤
+IsSound p requested (Uncertified reasons) = ⊤
+IsSound p requested StepsUsed = ⊤
+IsSound p requested NotASolution = ⊤
 
--- where nothing is said to serve, nothing does
+-- if it says that there is no solution, there is none
 abbrev pub IsComplete : {N S A : Type 0} → Provider N S → List ConditionalRequirement → Answer N S A → Type 0
-IsComplete p wanted (Picked solvables) = ⊤
-IsComplete p wanted (Unsolvable reasons) = IsUnsolvable p wanted
-IsComplete p wanted (Unshown reasons) = ⊤
-IsComplete p wanted StepsUsed = ⊤
-IsComplete p wanted Refuted = ⊤
+IsComplete p requested (Picked solvables) = ⊤
+IsComplete p requested (Unsolvable reasons) = IsUnsolvable p requested
+IsComplete p requested (Uncertified reasons) = ⊤
+IsComplete p requested StepsUsed = ⊤
+IsComplete p requested NotASolution = ⊤

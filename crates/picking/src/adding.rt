@@ -38,8 +38,8 @@ impl<T: SearchStore> Encoded<T> {
         })
     }
 
-    /// Says that the parent, if true, requires a candidate where the disjunction's literals, if there is one, are all
-    /// false: while the gates are all true.
+    /// Says that the parent, if true, requires a candidate, unless a literal of the disjunction is true: while the
+    /// gates are all true.
     pub(crate) fn require(
         &mut self,
         store: &mut T,
@@ -60,7 +60,7 @@ impl<T: SearchStore> Encoded<T> {
     }
 
     /// Makes a solvable false if its package excludes it, or is locked to another one.
-    pub(crate) fn leave_out(
+    pub(crate) fn exclude_or_lock(
         &mut self,
         store: &mut T,
         variable: VariableId,
@@ -136,15 +136,15 @@ fn forbid<T: SearchStore>(
 pub(crate) fn reason_for<T: SearchStore>(
     store: &T,
     parent: Option<T::SolvableId>,
-    wanted: ConditionalRequirement,
+    conditional: ConditionalRequirement,
 ) -> Reason<T::NameId, T::SolvableId> {
-    match store.lists(wanted.requirement) {
-        Some(lists) if has_candidate(lists) => Reason::Needs(parent, wanted),
-        _ => Reason::Lacks(parent, wanted),
+    match store.lists(conditional.requirement) {
+        Some(lists) if has_candidate(lists) => Reason::Needs(parent, conditional),
+        _ => Reason::Lacks(parent, conditional),
     }
 }
 
-/// Makes the variable that is true where a candidate of the requirement is.
+/// Makes the variable that is true if a candidate of the requirement is.
 pub(crate) fn add_gate<T: SearchStore>(
     alloc: T::Alloc,
     store: &mut T,
@@ -169,7 +169,7 @@ fn variables_of<T: SearchStore>(
     }
 }
 
-/// Says that a gate is true where one of these is.
+/// Says that a gate is true if one of these is.
 fn open_by_any<T: SearchStore>(
     store: &mut T,
     gate: VariableId,
@@ -181,8 +181,8 @@ fn open_by_any<T: SearchStore>(
     Ok(())
 }
 
-/// SearchStore that one of the gates of a condition isn't true.
-pub(crate) fn keep_unless<T: SearchStore>(
+/// Adds the disjunction that one of the gates of a condition isn't true.
+pub(crate) fn add_disjunction<T: SearchStore>(
     alloc: T::Alloc,
     store: &mut T,
     gates: &[VariableId],

@@ -1,5 +1,5 @@
 //! How a search encodes: clauses of what is required come first, and those of a candidate once it is true.
-use crate::adding::{Encoded, Need, add_gate, keep_unless, reason_for};
+use crate::adding::{Encoded, Need, add_disjunction, add_gate, reason_for};
 use crate::package_source::PackageSource;
 use crate::progress::Progress;
 use crate::reason::Reason;
@@ -21,7 +21,7 @@ struct Parent<S> {
     solvable: Option<S>,
 }
 
-/// Encodes into the store of a search what may be picked. The provider is asked for a package's candidates when a
+/// Encodes into the store of a search what may be picked. The provider is queried for a package's candidates when a
 /// requirement names it, and for a solvable's dependencies when it first is true.
 #[derive(Drop)]
 pub(crate) struct Encoder<T: SearchStore, P> {
@@ -54,17 +54,17 @@ impl<T: SearchStore, P: PackageSource<T::NameId, T::SolvableId, T::Alloc> + Drop
         })
     }
 
-    /// Encodes what is wanted, which the root requires.
+    /// Encodes the request, which the root requires.
     pub(crate) fn request(
         &mut self,
         store: &mut T,
-        wanted: &[ConditionalRequirement],
+        requested: &[ConditionalRequirement],
     ) -> Result<()> {
         let root = Parent {
             variable: VariableId::root(),
             solvable: None,
         };
-        self.require_all(store, &root, wanted)?;
+        self.require_all(store, &root, requested)?;
         self.introduce_all(store)
     }
 
@@ -132,7 +132,8 @@ impl<T: SearchStore, P: PackageSource<T::NameId, T::SolvableId, T::Alloc> + Drop
         };
         store.at_most_once(name, variable)?;
         let package = self.packages.package(name)?;
-        self.encoded.leave_out(store, variable, solvable, package)
+        self.encoded
+            .exclude_or_lock(store, variable, solvable, package)
     }
 
     /// Encodes the dependencies of a variable's solvable, unless they are encoded. Answers whether it did.
@@ -173,10 +174,10 @@ impl<T: SearchStore, P: PackageSource<T::NameId, T::SolvableId, T::Alloc> + Drop
         &mut self,
         store: &mut T,
         parent: &Parent<T::SolvableId>,
-        wanted: &[ConditionalRequirement],
+        requirements: &[ConditionalRequirement],
     ) -> Result<()> {
-        for wanted in wanted {
-            self.require(store, parent, *wanted)?;
+        for conditional in requirements {
+            self.require(store, parent, *conditional)?;
         }
         Ok(())
     }
@@ -186,14 +187,14 @@ impl<T: SearchStore, P: PackageSource<T::NameId, T::SolvableId, T::Alloc> + Drop
         &mut self,
         store: &mut T,
         parent: &Parent<T::SolvableId>,
-        wanted: ConditionalRequirement,
+        conditional: ConditionalRequirement,
     ) -> Result<()> {
-        let condition = wanted.condition;
-        store.load(wanted.requirement)?;
+        let condition = conditional.condition;
+        store.load(conditional.requirement)?;
         let need = Need {
             parent: parent.variable,
-            requirement: wanted.requirement,
-            reason: reason_for(store, parent.solvable, wanted),
+            requirement: conditional.requirement,
+            reason: reason_for(store, parent.solvable, conditional),
         };
         match condition {
             Some(condition) => {
@@ -215,13 +216,13 @@ impl<T: SearchStore, P: PackageSource<T::NameId, T::SolvableId, T::Alloc> + Drop
     ) -> Result<()> {
         for list in lists {
             let gates = self.gates_of(store, list)?;
-            let unless = keep_unless(self.alloc, store, &gates, condition)?;
+            let unless = add_disjunction(self.alloc, store, &gates, condition)?;
             self.encoded.require(store, need, Some(unless), gates)?;
         }
         Ok(())
     }
 
-    /// The variables that are all true where each of the version sets has a candidate that is true.
+    /// The variables that are all true if each of the version sets has a candidate that is true.
     fn gates_of(
         &mut self,
         store: &mut T,
@@ -237,7 +238,7 @@ impl<T: SearchStore, P: PackageSource<T::NameId, T::SolvableId, T::Alloc> + Drop
         Ok(gates)
     }
 
-    /// The variable that is true where a candidate of the version set is; it is made once.
+    /// The variable that is true if a candidate of the version set is; it is made once.
     fn gate(&mut self, store: &mut T, set: VersionSetId) -> Result<VariableId> {
         if let Some(gate) = self.gates.get(set) {
             return Ok(*gate);

@@ -1,4 +1,4 @@
-//! Why nothing serves: the encoded clauses from which the last conflict follows.
+//! Why there is no solution: the encoded clauses from which the last conflict follows.
 use crate::adding::Encoded;
 use crate::notes::{Antecedent, Notes};
 use crate::progress::Progress;
@@ -56,8 +56,8 @@ impl<A: Allocator + Copy> Trace<A> {
     }
 }
 
-/// That nothing serves, and why. The reasons are what the clauses that were seen say, each once, in the order in which
-/// they were encoded; then the packages of which at most one version may be picked.
+/// That there is no solution, and why. The reasons are what the clauses that were seen say, each once, in the order in
+/// which they were encoded; then the packages of which at most one version may be picked.
 pub(crate) fn refutation<T: SearchStore>(
     progress: &Progress<T>,
     encoded: &Encoded<T>,
@@ -69,7 +69,7 @@ pub(crate) fn refutation<T: SearchStore>(
     let mut reasons = values_of(progress.alloc, &encoded.reasons, &trace.clauses)?;
     add_packages(progress, &trace.seen, &mut reasons)?;
     let solvables = dependents(progress.alloc, &reasons)?;
-    let learnt = notes.claims(&trace.clauses)?;
+    let learnt = notes.package_literals(&trace.clauses)?;
     Ok(Refutation {
         learnt,
         solvables,
@@ -171,7 +171,7 @@ fn values_of<T: Copy + PartialEq, A: Allocator + Copy>(
     Ok(values)
 }
 
-/// The solvables of which the reasons tell dependencies. Reasons of one solvable come in turn.
+/// The solvables whose dependencies are among the reasons. Reasons of one solvable come in turn.
 fn dependents<N: Copy, S: Copy + PartialEq, A: Allocator + Copy>(
     alloc: A,
     reasons: &[Reason<N, S>],

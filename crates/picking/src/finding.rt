@@ -7,41 +7,41 @@ use crate::reason::Reason;
 use crate::search::{SearchEnd, search_for};
 use resolvo_ids::StoreError;
 use resolvo_pool::{ConditionalRequirement, DependencyProvider, Interner, ProviderFunctions};
-use serving::{refutes, serves};
+use solutions::{is_solution, refutes};
 use std::alloc::Allocator;
 
 /// What comes of a search.
 #[derive(Debug, Drop)]
 pub enum Answer<N, S, A: Allocator> {
-    /// These solvables serve.
+    /// These solvables are a solution.
     Picked(Vec<S, A>),
-    /// Nothing serves, for these reasons together. Of the reasons no contract speaks.
+    /// There is no solution, for these reasons together. The reasons are not proved.
     Unsolvable(Vec<Reason<N, S>, A>),
-    /// The search found nothing that serves, for these reasons together, which doesn't show that nothing does: what a
-    /// package excludes, or isn't locked to, may serve, and the search doesn't pick it.
-    Unshown(Vec<Reason<N, S>, A>),
-    /// So many steps were too few.
+    /// The search found no solution, for these reasons together, but the check doesn't certify it: what a package
+    /// excludes, or isn't locked to, may be in one, and the search doesn't pick it.
+    Uncertified(Vec<Reason<N, S>, A>),
+    /// This many steps were too few.
     StepsUsed,
-    /// What the search found doesn't serve, so the search is at fault. A right one never answers this.
-    Refuted,
+    /// What the search picked is no solution, so the search is at fault. A right one never answers this.
+    NotASolution,
 }
 
-/// Searches for solvables that serve whoever wants these requirements, in no more steps than these.
+/// Searches for a solution of the request, in no more steps than these.
 pub fn pick<D: DependencyProvider>(
     alloc: D::Alloc,
     provider: &D,
-    wanted: &[ConditionalRequirement],
+    requested: &[ConditionalRequirement],
     steps: u64,
 ) -> Result<Answer<D::NameId, D::SolvableId, D::Alloc>, StoreError>
-    ensures sound { IfOk result (IsSound (⟦<D as ProviderFunctions>⟧.functions provider.now) wanted.now) }
-    ensures complete { IfOk result (IsComplete (⟦<D as ProviderFunctions>⟧.functions provider.now) wanted.now) }
+    ensures sound { IfOk result (IsSound (⟦<D as ProviderFunctions>⟧.functions provider.now) requested.now) }
+    ensures complete { IfOk result (IsComplete (⟦<D as ProviderFunctions>⟧.functions provider.now) requested.now) }
 {
-    match search_for(alloc, Borrowed::new(provider), wanted, steps)? {
+    match search_for(alloc, Borrowed::new(provider), requested, steps)? {
         SearchEnd::Picked(solvables) => {
-            if serves(alloc, provider, wanted, &solvables)? {
+            if is_solution(alloc, provider, requested, &solvables)? {
                 Ok(Answer::Picked(solvables))
             } else {
-                Ok(Answer::Refuted)
+                Ok(Answer::NotASolution)
             }
         }
         SearchEnd::Unsolvable(refutation) => {
@@ -50,13 +50,13 @@ pub fn pick<D: DependencyProvider>(
             } else if refutes(
                 alloc,
                 provider,
-                wanted,
+                requested,
                 &refutation.solvables,
                 &refutation.learnt,
             )? {
                 Ok(Answer::Unsolvable(refutation.reasons))
             } else {
-                Ok(Answer::Unshown(refutation.reasons))
+                Ok(Answer::Uncertified(refutation.reasons))
             }
         }
         SearchEnd::StepsUsed => Ok(Answer::StepsUsed),

@@ -7,7 +7,7 @@ use crate::trail::{Assigned, Trail};
 use resolvo_clauses::{Decision, Literal, VariableOrigin};
 use resolvo_ids::{ClauseId, IndexedSet, VariableId};
 use resolvo_pool::Requirement;
-use serving::Claim;
+use solutions::PackageLiteral;
 use std::alloc::Allocator;
 
 /// The analysis of a conflict: which assignments can't stand together.
@@ -210,8 +210,8 @@ impl<T: SearchStore> Progress<T> {
         self.backjump(level);
         let literals = literals_against(self.alloc, last, lower, level)?;
         let clause = self.store.learnt(&literals)?.clause;
-        let claims = self.claims(&literals)?;
-        notes.add_learnt(clause, claims, antecedents)?;
+        let package_literals = self.package_literals(&literals)?;
+        notes.add_learnt(clause, package_literals, antecedents)?;
         let Decision {
             variable,
             value,
@@ -220,22 +220,25 @@ impl<T: SearchStore> Progress<T> {
         self.assign(Decision::new(variable, !value, clause))
     }
 
-    /// What the literals claim, in the provider's ids.
-    fn claims(&self, literals: &[Literal]) -> Result<Vec<Claim<T::SolvableId>, T::Alloc>> {
-        let mut claims = Vec::new(self.alloc);
+    /// The literals, in the provider's ids.
+    fn package_literals(
+        &self,
+        literals: &[Literal],
+    ) -> Result<Vec<PackageLiteral<T::SolvableId>, T::Alloc>> {
+        let mut package_literals = Vec::new(self.alloc);
         for literal in literals {
             let value = literal.satisfying_value();
             match self.store.origin(literal.variable()) {
                 Some(VariableOrigin::Solvable(solvable)) => {
-                    claims.push(Claim::Picked(solvable, value))?;
+                    package_literals.push(PackageLiteral::Picked(solvable, value))?;
                 }
                 Some(VariableOrigin::RequiresGate(Requirement::Single(set))) => {
-                    claims.push(Claim::Held(set, value))?;
+                    package_literals.push(PackageLiteral::Held(set, value))?;
                 }
                 _ => {}
             }
         }
-        Ok(claims)
+        Ok(package_literals)
     }
 }
 

@@ -1,16 +1,17 @@
-//! A resolver's search over the clause store, for any provider. What it picks serves: that is proved.
+//! A resolver's search over the clause store, for any provider. What it picks is a solution: that is proved.
 //!
-//! [`pick`] looks for versions of packages that serve whoever wants some requirements: each requirement has a picked
-//! candidate, each picked version's needs are given, nothing is picked that another one's constraints rule out, and at
-//! most one version of a package is picked. `serving`'s `specs/Serves` says so in the words of the provider alone.
+//! [`pick`] searches for a solution of a request: versions of packages that satisfy the request and the requirements of
+//! each of them, and respect their constraints, at most one of a package. `solutions/specs/Solutions` says so in the
+//! words of the provider alone.
 //!
 //! Nothing is promised of the search itself (`search`; `progress` has its store with the `trail`; `encoding` and
 //! `adding` for the clauses, `learning` and `notes` for conflicts, `deciding` and `pace` for decisions after many of
-//! them, `explaining` for why nothing serves, a list of [`Reason`]s). The search is generic in its store
+//! them, `explaining` for why there is no solution, a list of [`Reason`]s). The search is generic in its store
 //! (`search_store`) and in the source of packages (`package_source`), since a proof over a type parameter is much
-//! shorter than one over the store's own type. What it answers is checked at the end by the crate `serving`, which
-//! reads the provider and no store. Its `serves` checks what is picked. Its `refutes` checks that nothing serves, by a
-//! replay of the learnt clauses. `borrowed` makes a provider that a store can own of one that is borrowed.
+//! shorter than one over the store's own type. What it answers is checked at the end by the crate `solutions`, which
+//! reads the provider and no store. Its `is_solution` checks what is picked. Its `refutes` checks that there is
+//! no solution, by a replay of the learnt clauses. `borrowed` makes a provider that a store can own of one that is
+//! borrowed.
 #![tactic(auto)]
 
 mod adding;

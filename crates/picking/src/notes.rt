@@ -1,7 +1,7 @@
-//! What a search notes of learnt clauses: what they claim and follow from.
+//! What a search notes of learnt clauses: their literals, and what they follow from.
 use crate::search::Result;
 use resolvo_ids::{ClauseId, IndexedSet, Mapping, VariableId};
-use serving::Claim;
+use solutions::PackageLiteral;
 use std::alloc::Allocator;
 
 /// A step counts once more for each time that this many clauses were learnt.
@@ -20,8 +20,8 @@ pub(crate) enum Antecedent {
 #[derive(Drop)]
 struct LearntClause<S, A: Allocator> {
     clause: ClauseId,
-    /// One of these holds.
-    claims: Vec<Claim<S>, A>,
+    /// One of these is true.
+    package_literals: Vec<PackageLiteral<S>, A>,
 }
 
 /// What is noted of learnt clauses.
@@ -30,7 +30,7 @@ pub(crate) struct Notes<S, A: Allocator> {
     /// The learnt clauses, in order.
     learnt: Vec<LearntClause<S, A>, A>,
     /// The antecedents of each learnt clause.
-    derived: Mapping<ClauseId, Vec<Antecedent, A>, A>,
+    learnt_antecedents: Mapping<ClauseId, Vec<Antecedent, A>, A>,
     /// The antecedents of the last conflict, which follows from the root alone.
     pub(crate) root_cause: Vec<Antecedent, A>,
     alloc: A,
@@ -41,21 +41,24 @@ impl<S: Copy, A: Allocator + Copy> Notes<S, A> {
     pub(crate) fn new(alloc: A) -> Result<Self> {
         Ok(Notes {
             learnt: Vec::new(alloc),
-            derived: Mapping::new(alloc)?,
+            learnt_antecedents: Mapping::new(alloc)?,
             root_cause: Vec::new(alloc),
             alloc,
         })
     }
 
-    /// Notes what a learnt clause claims and follows from.
+    /// Notes the literals of a learnt clause, and what it follows from.
     pub(crate) fn add_learnt(
         &mut self,
         clause: ClauseId,
-        claims: Vec<Claim<S>, A>,
+        package_literals: Vec<PackageLiteral<S>, A>,
         antecedents: Vec<Antecedent, A>,
     ) -> Result<()> {
-        self.derived.insert(clause, antecedents)?;
-        self.learnt.push(LearntClause { clause, claims })?;
+        self.learnt_antecedents.insert(clause, antecedents)?;
+        self.learnt.push(LearntClause {
+            clause,
+            package_literals,
+        })?;
         Ok(())
     }
 
@@ -66,23 +69,23 @@ impl<S: Copy, A: Allocator + Copy> Notes<S, A> {
 
     /// What a clause follows from; nothing unless it was learnt.
     pub(crate) fn antecedents(&self, clause: ClauseId) -> &[Antecedent] {
-        match self.derived.get(clause) {
+        match self.learnt_antecedents.get(clause) {
             Some(antecedents) => antecedents.as_slice(),
             None => &[],
         }
     }
 
-    /// What the learnt ones of these clauses claim, in order.
-    pub(crate) fn claims(
+    /// The literals of the learnt ones of these clauses, in order.
+    pub(crate) fn package_literals(
         &self,
         clauses: &IndexedSet<ClauseId, A>,
-    ) -> Result<Vec<Vec<Claim<S>, A>, A>> {
-        let mut claims = Vec::new(self.alloc);
+    ) -> Result<Vec<Vec<PackageLiteral<S>, A>, A>> {
+        let mut package_literals = Vec::new(self.alloc);
         for learnt in &self.learnt {
             if clauses.contains(learnt.clause) {
-                claims.push(Vec::from_slice(self.alloc, &learnt.claims)?)?;
+                package_literals.push(Vec::from_slice(self.alloc, &learnt.package_literals)?)?;
             }
         }
-        Ok(claims)
+        Ok(package_literals)
     }
 }

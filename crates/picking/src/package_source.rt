@@ -22,11 +22,11 @@ pub(crate) trait PackageSource<N, S, A: Allocator> {
     /// The dependencies of a solvable.
     fn needs(&self, solvable: S) -> Result<Dependencies<A>>;
 
-    /// The normal form of a condition: it holds where all version sets of one list do.
+    /// The normal form of a condition: it holds if all version sets of one list do.
     fn lists(&self, condition: ConditionId) -> Result<Vec<Vec<VersionSetId, A>, A>>;
 
     /// Refuses to go on if the provider says so.
-    fn go_on(&self) -> Result<()>;
+    fn check_cancelled(&self) -> Result<()>;
 
     /// How often conflicts had a version of a package, recent ones counted most.
     fn score(&self, name: N) -> u64;
@@ -42,14 +42,14 @@ pub(crate) trait PackageSource<N, S, A: Allocator> {
 #[derive(Drop)]
 pub(crate) struct ProvidedPackages<D: DependencyProvider> {
     provider: D,
-    /// Each package is asked for once.
+    /// Each package is queried once.
     cache: SolverCache<D>,
     scores: Scores<D::NameId, D::Alloc>,
     alloc: D::Alloc,
 }
 
 impl<D: DependencyProvider + Copy> ProvidedPackages<D> {
-    /// A provider that wasn't asked yet.
+    /// A provider that wasn't queried yet.
     pub(crate) fn new(alloc: D::Alloc, provider: D) -> Self {
         ProvidedPackages {
             provider,
@@ -100,7 +100,7 @@ impl<D: DependencyProvider + Copy> PackageSource<D::NameId, D::SolvableId, D::Al
         convert_conditions_to_dnf(self.alloc, condition, &self.provider)
     }
 
-    fn go_on(&self) -> Result<()> {
+    fn check_cancelled(&self) -> Result<()> {
         match self.provider.should_cancel_with_value() {
             Some(_) => Err(StoreError::Cancelled),
             None => Ok(()),

@@ -1,18 +1,19 @@
-//! Why nothing serves.
+//! Why there is no solution.
 use resolvo_ids::{SameValue, StringId, VersionSetId};
 use resolvo_pool::ConditionalRequirement;
 
-/// One of the things for which together nothing serves, in the provider's ids: `N` are its names, `S` its solvables.
+/// One of the reasons for which together there is no solution, in the provider's ids: `N` are its names, `S` its
+/// solvables.
 #[derive(Clone, Copy)]
 #[derive_where(Debug, PartialEq, Eq; N, S)]
 pub enum Reason<N, S> {
-    /// The solvable needs this, or who asks wants it, where there is no solvable.
+    /// The solvable needs this; without a solvable, it is requested.
     Needs(Option<S>, ConditionalRequirement),
     /// The same, and there is no candidate.
     Lacks(Option<S>, ConditionalRequirement),
     /// The solvable forbids each candidate that the version set doesn't hold.
     Limits(S, VersionSetId),
-    /// What the solvable needs can't be told, for the reason that the string says.
+    /// What the solvable needs isn't known, for the reason that the string says.
     Unknown(S, StringId),
     /// The solvable's package excludes it, for the reason that the string says.
     Excluded(S, StringId),
@@ -23,7 +24,7 @@ pub enum Reason<N, S> {
 }
 
 impl<N: Copy, S: Copy> Reason<N, S> {
-    /// The solvable of whose dependencies it tells.
+    /// The solvable whose dependencies it is about.
     pub(crate) fn dependent(&self) -> Option<S> {
         match self {
             Reason::Needs(solvable, _) | Reason::Lacks(solvable, _) => *solvable,

@@ -2,7 +2,7 @@
 //!
 //! It encodes all that may be picked (`encoding`); then it propagates and decides in turn. From a conflict it learns a
 //! clause, and backjumps (`learning`). After many conflicts it decides by scores (`deciding`), and restarts now and
-//! then (`pace`). If nothing serves, it explains why (`explaining`).
+//! then (`pace`). If there is no solution, it explains why (`explaining`).
 use crate::deciding::{best_offer, raise_scores};
 use crate::encoding::Encoder;
 use crate::explaining::refutation;
@@ -16,7 +16,7 @@ use crate::trail::Trail;
 use resolvo_ids::{ClauseId, StoreError, VariableId};
 use resolvo_pool::{ConditionalRequirement, DependencyProvider};
 use resolvo_store::{ClauseStore, Next};
-use serving::Claim;
+use solutions::PackageLiteral;
 use std::alloc::Allocator;
 
 pub(crate) type Result<T> = std::result::Result<T, StoreError>;
@@ -26,18 +26,18 @@ pub(crate) type Result<T> = std::result::Result<T, StoreError>;
 pub(crate) enum SearchEnd<N, S, A: Allocator> {
     /// These solvables were found.
     Picked(Vec<S, A>),
-    /// Nothing serves.
+    /// There is no solution.
     Unsolvable(Refutation<N, S, A>),
     /// The steps were too few.
     StepsUsed,
 }
 
-/// That nothing serves.
+/// That there is no solution.
 #[derive(Drop)]
 pub(crate) struct Refutation<N, S, A: Allocator> {
     /// Learnt clauses: each follows by unit propagation from the encoded clauses and from those before it, and all of
     /// them together contradict the encoded clauses.
-    pub(crate) learnt: Vec<Vec<Claim<S>, A>, A>,
+    pub(crate) learnt: Vec<Vec<PackageLiteral<S>, A>, A>,
     /// The solvables whose dependencies that takes.
     pub(crate) solvables: Vec<S, A>,
     /// What that follows from in the end.
@@ -55,11 +55,11 @@ struct Search<T: SearchStore, P> {
     notes: Notes<T::SolvableId, T::Alloc>,
 }
 
-/// Searches for solvables that meet the requirements, within a number of steps.
+/// Searches for a solution of the request, within a number of steps.
 pub(crate) fn search_for<D: DependencyProvider + Copy>(
     alloc: D::Alloc,
     provider: D,
-    wanted: &[ConditionalRequirement],
+    requested: &[ConditionalRequirement],
     steps: u64,
 ) -> Result<SearchEnd<D::NameId, D::SolvableId, D::Alloc>> {
     let store = ClauseStore::new(alloc, provider)?;
@@ -67,7 +67,7 @@ pub(crate) fn search_for<D: DependencyProvider + Copy>(
         alloc,
         store,
         ProvidedPackages::new(alloc, provider),
-        wanted,
+        requested,
         steps,
     )
 }
@@ -77,11 +77,11 @@ fn search_by<T: SearchStore + Drop, P: PackageSource<T::NameId, T::SolvableId, T
     alloc: T::Alloc,
     store: T,
     packages: P,
-    wanted: &[ConditionalRequirement],
+    requested: &[ConditionalRequirement],
     steps: u64,
 ) -> Result<SearchEnd<T::NameId, T::SolvableId, T::Alloc>> {
     let mut search = Search::new(alloc, store, packages)?;
-    let end = search.find(wanted, steps);
+    let end = search.find(requested, steps);
     drop(search);
     end
 }
@@ -107,14 +107,14 @@ impl<T: SearchStore + Drop, P: PackageSource<T::NameId, T::SolvableId, T::Alloc>
         })
     }
 
-    /// Encodes what is wanted, and runs.
+    /// Encodes the request, and runs.
     fn find(
         &mut self,
-        wanted: &[ConditionalRequirement],
+        requested: &[ConditionalRequirement],
         steps: u64,
     ) -> Result<SearchEnd<T::NameId, T::SolvableId, T::Alloc>> {
         self.progress.begin()?;
-        self.encoder.request(&mut self.progress.store, wanted)?;
+        self.encoder.request(&mut self.progress.store, requested)?;
         self.run(steps)
     }
 
@@ -193,7 +193,7 @@ impl<T: SearchStore + Drop, P: PackageSource<T::NameId, T::SolvableId, T::Alloc>
         if self.pace.count() {
             self.progress.store.decay(1, 2)?;
         }
-        self.encoder.packages.go_on()?;
+        self.encoder.packages.check_cancelled()?;
         Ok(true)
     }
 }

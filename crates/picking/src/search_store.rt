@@ -1,4 +1,4 @@
-//! What a search asks of its store. The search is generic in it, since a proof over a type parameter is much shorter
+//! What a search needs of its store. The search is generic in it, since a proof over a type parameter is much shorter
 //! than one over the store's own type.
 use crate::search::Result;
 use resolvo_clauses::{Decision, Literal, VariableOrigin};

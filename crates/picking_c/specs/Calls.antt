@@ -1,8 +1,8 @@
 -- What a call answers its caller.
 use Rattle.std.specs.Prelude.{◌≡◌, ℕ, ◌<◌, ◌≤◌, List, ◌++◌, drop, length}
-use Rattle.picking_text.specs.Status.{status_of}
-use Rattle.picking_text.specs.declared.outcome.Outcome.{Outcome}
-use Rattle.picking_text.specs.declared.outcome.Outcome.TheVariants.{Failed}
+use Rattle.example_answers.specs.Status.{status_of}
+use Rattle.example_answers.specs.declared.outcome.Outcome.{Outcome}
+use Rattle.example_answers.specs.declared.outcome.Outcome.TheVariants.{Failed}
 
 -- the text at the start of a buffer, and behind it what is there
 abbrev pub written : List ℕ → List ℕ → List ℕ
@@ -14,6 +14,6 @@ pub record IsAnswered (Says : Outcome → List ℕ → Type 0) (old new : List �
   pub text : List ℕ
   pub says : Says outcome text
   pub size : needed ≡ length text
-  pub told : needed ≤ length old → (status ≡ status_of outcome) × (new ≡ written text old)
+  pub answered : needed ≤ length old → (status ≡ status_of outcome) × (new ≡ written text old)
   -- where the buffer is too small, nothing is written
   pub short : length old < needed → (status ≡ status_of Failed) × (new ≡ old)

@@ -1,17 +1,17 @@
 //! Picking versions, for programs in C, or in any language that calls C: an example.
 //!
-//! [`nivolakku_pick`] takes an index as a text, in the format of `small_index`, and answers as the program
+//! [`nivolakku_pick`] takes an index as a text, in the format of `example_index`, and answers as the program
 //! `pick_versions` does, into a buffer of the caller's. `picking.h` declares it and says how it is called; no proof
 //! covers that declaration, nor what the caller owes.
 #![tactic(auto)]
 
 ghost use Rattle.std.specs.Prelude.{◌≡◌, ◌≤◌, ◌↔◌, true, false, length, IsTrue};
-ghost use Rattle.picking_text.specs.Answers.{IsAnswerOf};
+ghost use Rattle.example_answers.specs.Answers.{IsAnswerOf};
 ghost use Rattle.picking_c.specs.Calls.{IsAnswered, written};
 
-use picking_text::{Outcome, answer_text};
+use example_answers::{Outcome, answer_text};
+use example_index::SmallIndex;
 use resolvo_pool::{Interner, ProviderFunctions};
-use small_index::SmallIndex;
 use std::alloc::Global;
 
 /// Answers the index of a text, in no more steps than these. Where memory is refused for the answer, that is empty.
@@ -27,14 +27,14 @@ pub extern "C" fn nivolakku_pick(
         (IsAnswerOf ⟦<SmallIndex as ProviderFunctions>⟧.functions ⟦<SmallIndex as Interner>⟧.texts 0)
         answer.old answer.new needed.new result }
 {
-    let Ok(told) = answer_text(alloc, index, steps) else {
+    let Ok(answered) = answer_text(alloc, index, steps) else {
         *needed = 0;
         return u32::from(Outcome::GaveUp.status());
     };
-    let text = told.text.as_bytes();
+    let text = answered.text.as_bytes();
     *needed = text.len();
     if write(text, answer) {
-        u32::from(told.outcome.status())
+        u32::from(answered.outcome.status())
     } else {
         u32::from(Outcome::Failed.status())
     }

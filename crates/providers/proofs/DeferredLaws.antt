@@ -23,7 +23,7 @@ module _ {S : Type 0} (answers : S → Bool → Type 0) where
 
   module _ (test : S → Bool) (says : (s : S) (b : Bool) → answers s b → b ≡ test s) where
     has_answer : (candidates : List S) (b : Bool) → HasAnswer answers candidates b → list_any test candidates ≡ b
-    has_answer candidates true (k, s, within, at, told) = list_any-from_Any test candidates (k, s, within, at, sym (says s true told))
+    has_answer candidates true (k, s, within, at, allowed) = list_any-from_Any test candidates (k, s, within, at, sym (says s true allowed))
     has_answer candidates false none = list_any_none test candidates (λ k d within. sym (says _ false (none k d within)))
 
     pub holds_by_test : {A : Type 0} (conjuncts : List (DeferredConjunct S A)) (b : Bool) → HoldsBy answers conjuncts b → b ≡ disjunct_holds test conjuncts

@@ -38,7 +38,7 @@ crossed_assoc (x ∷ xs) ys zs =
 
 -- ---- what is left, where each condition has a formula
 
--- the steps of a formula, where so many come behind it
+-- the steps of a formula, where n come behind it
 abbrev cost : Formula → ℕ → ℕ
 cost (Leaf set) k = k + 1
 cost (Both f g) k = cost f (cost g k) + 1

@@ -25,10 +25,10 @@ requirement_parts (Single set) = 0 ∷ set.0 ∷ []
 requirement_parts (Union union) = 1 ∷ union.0 ∷ []
 
 -- no condition before any, then by the condition's id
-abbrev pub asked_parts : Option ℕ → List ℕ
-asked_parts None = 0 ∷ []
-asked_parts (Some condition) = 1 ∷ condition ∷ []
+abbrev pub optional_condition_parts : Option ℕ → List ℕ
+optional_condition_parts None = 0 ∷ []
+optional_condition_parts (Some condition) = 1 ∷ condition ∷ []
 
 -- the condition, then the requirement
 abbrev pub conditional_parts : ConditionalRequirement → List ℕ
-conditional_parts c = asked_parts c.condition ++ requirement_parts c.requirement
+conditional_parts c = optional_condition_parts c.condition ++ requirement_parts c.requirement

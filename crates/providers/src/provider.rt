@@ -47,7 +47,7 @@ pub trait DependencyProvider: Interner {
     ) -> Result<Option<Candidates<Self::SolvableId, Self::Alloc>>, StoreError>
         ensures candidates { IfOk result (λ found. candidates_of found ≡ (answers self.now).candidates name) }
         ensures favored { IfOk result (λ found. favored_of found ≡ (answers self.now).favored name) }
-        ensures told { IfOk result (λ found. may_answer self.now name found) }
+        ensures allowed { IfOk result (λ found. may_answer self.now name found) }
         ensures err { IfErr result (λ e. e ≡ OutOfMemory) };
 
     /// Puts solvables in the order of preference, the best first. A refusal may leave them in any order.

@@ -1,4 +1,4 @@
--- The definitions of the rooms, by topic.
+-- The definitions of the crates behind this one, by topic.
 pub mod Types
 pub use Rattle.decisions.specs.Decisions
 pub use Rattle.decisions.specs.Floor
@@ -13,7 +13,7 @@ pub use Rattle.clauses.specs.Clauses
 pub use Rattle.clauses.specs.ClauseTexts
 pub use Rattle.clauses.specs.Stored
 pub use Rattle.at_most_once.specs.AtMostOne
-pub use Rattle.watch_map.specs.Forcing
+pub use Rattle.watch_map.specs.Implication
 pub use Rattle.watch_map.specs.WatchCalls
 pub use Rattle.watch_map.specs.WatchLists
 pub use Rattle.watch_map.specs.Watching

@@ -1,4 +1,4 @@
--- The types of the rooms, each with its fields or variants.
+-- The types of the crates behind this one, each with its fields or variants.
 pub use Rattle.decisions.specs.declared.decision.Decision
 pub use Rattle.decisions.specs.declared.decision_map.DecisionMap
 pub use Rattle.decisions.specs.declared.decision_tracker.AddFault

@@ -1,6 +1,6 @@
-//! Variables, literals, clauses, their watch lists and the trail of decisions: the door to five rooms.
+//! Variables, literals, clauses, their watch lists and the trail of decisions: the facade of five crates.
 //!
-//! | room | what it holds |
+//! | crate | what it has |
 //! |---|---|
 //! | `decisions` | literals, decisions, and the trail of decisions |
 //! | `variables` | what each variable stands for, the variables of solvables; a variable's literals and text |
@@ -8,7 +8,7 @@
 //! | `at_most_once` | clauses by which at most one of several variables is true |
 //! | `watch_map` | the two literals that a clause watches, the clauses that watch a literal, and a walk over them |
 //!
-//! A clause names a definition of a room as `Rattle.resolvo_clauses.specs.TOPIC`, and a type with its variants as
+//! A contract names a definition of theirs as `Rattle.resolvo_clauses.specs.TOPIC`, and a type with its variants as
 //! `Rattle.resolvo_clauses.specs.Types.NAME`.
 #![tactic(auto)]
 

@@ -1,4 +1,4 @@
--- The definitions of the rooms, by topic.
+-- The definitions of the crates behind this one, by topic.
 pub mod Types
 pub use Rattle.typed_ids.specs.Refusals
 pub use Rattle.typed_ids.specs.TotalMaps

@@ -1,4 +1,4 @@
--- The types of the rooms, each with its fields or variants, and then their traits.
+-- The types of the crates behind this one, each with its fields or variants, and then their traits.
 pub use Rattle.typed_ids.specs.declared.candidates_id.CandidatesId
 pub use Rattle.typed_ids.specs.declared.clause_id.ClauseId
 pub use Rattle.typed_ids.specs.declared.condition_id.ConditionId

@@ -1,12 +1,12 @@
-//! Typed ids, and what is kept by them: the door to three rooms.
+//! Typed ids, and what is kept by them: the facade of three crates.
 //!
-//! | room | what it holds |
+//! | crate | what it has |
 //! |---|---|
 //! | `typed_ids` | the ids, their traits, and the refusals |
 //! | `id_maps` | total maps and sets that an id chooses |
 //! | `id_storage` | lists of values, finite maps, and maps of whose values only copies are handed out |
 //!
-//! A clause names a definition of a room as `Rattle.resolvo_ids.specs.TOPIC`, and a type with its variants, or a trait
+//! A contract names a definition of theirs as `Rattle.resolvo_ids.specs.TOPIC`, and a type with its variants, or a trait
 //! with its ghost members, as `Rattle.resolvo_ids.specs.Types.NAME`.
 #![tactic(auto)]
 

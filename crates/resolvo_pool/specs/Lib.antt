@@ -1,4 +1,4 @@
--- The definitions of the rooms, by topic.
+-- The definitions of the crates behind this one, by topic.
 pub mod Types
 pub use Rattle.providers.specs.Dependencies
 pub use Rattle.providers.specs.Parts

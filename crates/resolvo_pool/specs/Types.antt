@@ -1,4 +1,4 @@
--- The types of the rooms, each with its fields or variants, and then their traits.
+-- The types of the crates behind this one, each with its fields or variants, and then their traits.
 pub use Rattle.providers.specs.declared.candidates.Candidates
 pub use Rattle.providers.specs.declared.candidates.HintDependenciesAvailable
 pub use Rattle.providers.specs.declared.condition.Condition

@@ -1,12 +1,12 @@
-//! Packages, as a resolver asks for them: the door to three rooms.
+//! Packages, as a resolver asks for them: the facade of three crates.
 //!
-//! | room | what it holds |
+//! | crate | what it has |
 //! |---|---|
 //! | `providers` | requirements and conditions, with their normal form; interner and provider as traits; texts of ids |
 //! | `package_pool` | the pool, where an ecosystem keeps what its ids stand for |
 //! | `solver_cache` | the cache, by which a resolver asks each question once |
 //!
-//! A clause names a definition of a room as `Rattle.resolvo_pool.specs.TOPIC`, and a type with its variants, or a trait
+//! A contract names a definition of theirs as `Rattle.resolvo_pool.specs.TOPIC`, and a type with its variants, or a trait
 //! with its ghost members, as `Rattle.resolvo_pool.specs.Types.NAME`.
 #![tactic(auto)]
 

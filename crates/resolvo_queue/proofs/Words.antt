@@ -1,6 +1,6 @@
 -- The words that lemmas and answers are said with: those of this crate, and of crates below.
 pub use Rattle.clauses.specs.Clauses.{condition_literals}
-pub use Rattle.clauses.specs.Stored.{kept_in}
+pub use Rattle.clauses.specs.Stored.{stored_in}
 pub use Rattle.clauses.specs.declared.disjunction.Disjunction.{Disjunction}
 pub use Rattle.decisions.specs.Decisions.{values_in}
 pub use Rattle.decisions.specs.Literals.{is_false_literal, known_false, known_true, Lit, Neg, Pos, truth, undecided}
@@ -26,15 +26,15 @@ pub use Rattle.resolvo_queue.specs.Parts.Tracking.{BeginFirst, Gains, GainsClaus
 pub use Rattle.resolvo_queue.specs.Parts.Tracking.{IsFirstOf, IsInOrder, Registers, Tracking, tracking_of}
 pub use Rattle.resolvo_queue.specs.Pick.{beats, best_offer, better, decided, DecidesUnbeaten, eligible, is_of_root}
 pub use Rattle.resolvo_queue.specs.Pick.{IsUnbeaten, Offer, offer, pick}
-pub use Rattle.resolvo_queue.specs.Pick.Grounds.{AskedOn, CanBeAsked, Grounds, grounds, ImprovedBy, offers_on}
+pub use Rattle.resolvo_queue.specs.Pick.Grounds.{CanDecideOn, CanDecide, Grounds, grounds, ImprovedBy, offers_on}
 pub use Rattle.resolvo_queue.specs.Pick.Grounds.{OnlyWalks, score_by}
 pub use Rattle.resolvo_queue.specs.Pick.Groups.{Group, has_of, is_in, IsNextOf, offers_of, only_in}
 pub use Rattle.resolvo_queue.specs.Pick.Inspection.{clause_of, eligible_frontier, Learns, ListsOnly, may_be, offer_of}
 pub use Rattle.resolvo_queue.specs.Pick.Inspection.{offer_with}
-pub use Rattle.resolvo_queue.specs.Pick.Questions.{AreAskable, AreUpTo, clause_literals, IsAskable}
+pub use Rattle.resolvo_queue.specs.Pick.Questions.{CanInspectAll, AreUpTo, clause_literals, CanInspect}
 pub use Rattle.resolvo_queue.specs.Pick.Ready.{AreLocated, at_position, behind, ColdHasNoScore, improved, IsDone}
 pub use Rattle.resolvo_queue.specs.Pick.Ready.{IsReady, offered, picked_behind, place_of, rest_picked, scanned}
-pub use Rattle.resolvo_queue.specs.Queue.{AgreesBelow, AreNamed, IsKept, IsRegistered, IsSynced, OnlyHotScore, Queue}
+pub use Rattle.resolvo_queue.specs.Queue.{AgreesBelow, AreNamed, IsWellFormed, IsRegistered, IsSynced, OnlyHotScore, Queue}
 pub use Rattle.resolvo_queue.specs.Queue.{queue_of, StandsOn, values_of}
 pub use Rattle.resolvo_queue.specs.References.{CanWalk, HasParts, IsWalkable, Lists, literals_in, References}
 pub use Rattle.resolvo_queue.specs.References.{references, score_in}
@@ -63,7 +63,7 @@ pub use Rattle.resolvo_queue.specs.declared.queue_decision.QueueDecision.{QueueD
 pub use Rattle.resolvo_queue.specs.declared.requirements.RequirementRecord.{RequirementRecord}
 pub use Rattle.resolvo_queue.specs.declared.requires_clause.RequiresClause.{RequiresClause}
 pub use Rattle.resolvo_queue.specs.declared.row_state.RowState.{RowState}
-pub use Rattle.resolvo_queue.specs.declared.row_state.RowState.TheVariants.{AllFalse, Met, Undecided}
+pub use Rattle.resolvo_queue.specs.declared.row_state.RowState.TheVariants.{AllFalse, Satisfied, Undecided}
 pub use Rattle.resolvo_queue.specs.declared.tracked_clause.Position.{Position}
 pub use Rattle.resolvo_queue.specs.declared.tracked_clause.TrackedClause.{TrackedClause}
 pub use Rattle.resolvo_queue.specs.declared.tracked_clauses.TrackedClauses.{TrackedClauses}

@@ -5,15 +5,15 @@ use Rattle.resolvo_queue.specs.Pick.Inspection.{clause_of}
 use Rattle.resolvo_queue.specs.Scan.Positions.{position_cmp, is_after}
 use Rattle.resolvo_queue.specs.References.{References, literals_in, references, rows_in}
 use Rattle.resolvo_queue.specs.Scan.{is_falsified}
-use Rattle.resolvo_queue.specs.declared.asked.Asked.{Asked}
+use Rattle.resolvo_queue.specs.declared.questions.FalsifiedQuestion.{FalsifiedQuestion}
 
 -- the clause is falsified
 abbrev pub is_falsified_in : {N S A : Type 0} → References N S A → Values → TrackedClause → Bool
 is_falsified_in refs val c = is_falsified val (literals_in refs) (rows_in refs) (clause_of c)
 
 -- what clauses name, as an interner knows it
-abbrev pub refs_of : {N S I A : Type 0} → (I → Universe N S) → Asked I A → References N S A
-refs_of universe asked = references (universe asked.interner.now) asked.lists.now asked.disjunctions.now
+abbrev pub refs_of : {N S I A : Type 0} → (I → Universe N S) → FalsifiedQuestion I A → References N S A
+refs_of universe question = references (universe question.interner.now) question.lists.now question.disjunctions.now
 
 -- the clause stands before the other one in the scan, if there is one
 abbrev pub comes_first : TrackedClause → Option TrackedClause → Bool

@@ -224,7 +224,7 @@ record_seen r = record {
   walks = length r.log.walked;
 }
 
--- what is known of a requirement's rows was told by a walk
+-- what is known of a requirement's rows was found by a walk
 abbrev pub IsCounted : Record → Type 0
 IsCounted t = (t.walk ≡ None) ⊎ (1 ≤ t.walks)
 

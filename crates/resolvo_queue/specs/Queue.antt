@@ -142,7 +142,7 @@ module _ {N S A H : Type 0} (refs : References N S A) (val : Values) (q : Queue 
   falsified_in = first_falsified val (literals_in refs) (rows_in refs) q.clauses
 
 -- what always holds of a queue
-pub record IsKept {N H : Type 0} (has : H → N → Bool) (q : Queue N H) : Type 0 where
+pub record IsWellFormed {N H : Type 0} (has : H → N → Bool) (q : Queue N H) : Type 0 where
   pub order : IsInOrder q.inside
   pub names : length q.names ≡ length q.inside.clauses
   pub woken : q.woken ≤ length q.inside.clauses

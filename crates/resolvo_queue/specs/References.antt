@@ -1,6 +1,6 @@
 -- What clauses name by ids. N are the names of packages, S the solvables, A the allocators.
 use Rattle.std.specs.Prelude.{◌≡◌, ℕ, ◌<◌, ◌^◌, true, List, [], length, Option, IsSome, IfSome}
-use Rattle.resolvo_queue.specs.Types.{condition_literals, Disjunction, kept_in, knows_requirement, Lit, lookup}
+use Rattle.resolvo_queue.specs.Types.{condition_literals, Disjunction, stored_in, knows_requirement, Lit, lookup}
 use Rattle.resolvo_queue.specs.Types.{Requirement, RequiresClause, same_requirement, sets_of, Universe, Vec}
 use Rattle.resolvo_queue.specs.Types.{VersionSetId}
 use Rattle.resolvo_queue.specs.Rows.{Row, lists_loaded, loaded_rows, candidates}
@@ -33,7 +33,7 @@ module _ {N S A : Type 0} (refs : References N S A) where
 
   -- the literals of a condition, those of its disjunction; none without one
   abbrev pub literals_in : Option ℕ → List Lit
-  literals_in condition = condition_literals (kept_in [] [] refs.disjunctions) condition
+  literals_in condition = condition_literals (stored_in [] [] refs.disjunctions) condition
 
   -- the score of a version set is its package's
   abbrev pub score_in : (N → ℕ) → VersionSetId → ℕ

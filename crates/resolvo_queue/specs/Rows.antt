@@ -42,11 +42,11 @@ abbrev pub loaded_rows : {N S A : Type 0} → Universe N S → List (Requirement
 loaded_rows universe loaded requirement = rows (sets_of universe requirement) (lists_loaded loaded requirement)
 
 module _ (val : Values) where
-  -- a row is true: the requirement is met
+  -- a row is true: the requirement is satisfied
   abbrev pub has_true_row : List Row → Bool
   has_true_row rs = list_any (λ row. known_true (val row.variable)) rs
 
-  -- all rows are false: the requirement can't be met any more
+  -- all rows are false: the requirement can't be satisfied any more
   abbrev pub all_false : List Row → Bool
   all_false rs = list_all (λ row. known_false (val row.variable)) rs
 

@@ -23,7 +23,7 @@ clauses_of cs parent = filter (λ c. c.parent == parent) cs
 abbrev pub scan : List RequiresClause → List RequiresClause
 scan cs = flat_map (clauses_of cs) (parents cs)
 
--- all literals of a condition are false, so that it is met
+-- all literals of a condition are false, so that it holds
 abbrev pub are_literals_false : Values → List Lit → Bool
 are_literals_false val literals = list_all (is_false_literal val) literals
 

@@ -1,6 +1,6 @@
 -- The types of the source, and the words of crates below, that this crate's words are said with.
 pub use Rattle.clauses.specs.Clauses.{condition_literals}
-pub use Rattle.clauses.specs.Stored.{kept_in}
+pub use Rattle.clauses.specs.Stored.{stored_in}
 pub use Rattle.clauses.specs.declared.disjunction.Disjunction.{Disjunction}
 pub use Rattle.decisions.specs.Decisions.{values_in}
 pub use Rattle.decisions.specs.Literals.{is_false_literal, known_false, known_true, Lit, undecided, Values, variable_of}

@@ -1,6 +1,6 @@
 //! Whether a clause's condition is met.
 ghost use Rattle.std.specs.Prelude.{◌≡◌, ◌<◌, [], length, IfSome};
-ghost use Rattle.resolvo_queue.specs.Types.{condition_literals, kept_in, values_in};
+ghost use Rattle.resolvo_queue.specs.Types.{condition_literals, stored_in, values_in};
 ghost use Rattle.resolvo_queue.specs.Scan.{are_literals_false};
 
 use clauses::Disjunction;
@@ -15,7 +15,7 @@ pub(crate) fn condition_of<'d, A: Allocator + Copy>(
     disjunctions: &'d Arena<DisjunctionId, Disjunction<A>, A>,
 ) -> &'d [Literal]
     requires { IfSome condition.now (λ d. d < length disjunctions.now) }
-    ensures { result.now ≡ condition_literals (kept_in [] [] disjunctions.now) condition.now }
+    ensures { result.now ≡ condition_literals (stored_in [] [] disjunctions.now) condition.now }
 {
     match condition {
         None => &[],
@@ -23,15 +23,15 @@ pub(crate) fn condition_of<'d, A: Allocator + Copy>(
     }
 }
 
-/// Whether all literals of a condition are false. Without one there are none.
-pub(crate) fn is_met<A: Allocator + Copy>(
+/// Whether a condition holds: all its literals are false. Without one there are none.
+pub(crate) fn condition_holds<A: Allocator + Copy>(
     condition: Option<DisjunctionId>,
     disjunctions: &Arena<DisjunctionId, Disjunction<A>, A>,
     map: &DecisionMap<A>,
 ) -> bool
     requires { IfSome condition (λ d. d < length disjunctions.now) }
     ensures { result ≡ are_literals_false (values_in map.now)
-        (condition_literals (kept_in [] [] disjunctions.now) condition) }
+        (condition_literals (stored_in [] [] disjunctions.now) condition) }
 {
     are_false(condition_of(&condition, disjunctions), map)
 }

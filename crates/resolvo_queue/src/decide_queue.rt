@@ -24,12 +24,12 @@ ghost use Rattle.resolvo_queue.specs.WalkCounts.{OwesMoreAmong, WalksOnce, chang
 
 mod reading;
 
-use crate::asked::Question;
 use crate::clauses_by_name::ClausesByName;
 use crate::condition::condition_of;
 use crate::deciding::next_offer;
 use crate::names::{NameLog, has_hot_name};
 use crate::offer::decision_of;
+use crate::questions::Question;
 use crate::queue_decision::QueueDecision;
 use crate::requires_clause::RequiresClause;
 use crate::row_reader::RowReader;
@@ -63,13 +63,13 @@ pub struct DecideQueue<D: DependencyProvider> {
 impl<D: DependencyProvider> Model for DecideQueue<D> {
     ghost use Rattle.std.specs.Prelude.{map};
     ghost use Rattle.resolvo_queue.specs.Parts.{AreEntered, numbers_under};
-    ghost use Rattle.resolvo_queue.specs.Queue.{IsKept, Queue, queue_of};
+    ghost use Rattle.resolvo_queue.specs.Queue.{IsWellFormed, Queue, queue_of};
 
     ghost Value = { Queue D.NameId D.NameId.Set };
 
     ghost view = { λ q. queue_of q.tracked q.names.items q.hot_names q.woken };
 
-    ghost invariant = { λ q. IsKept D.NameId.Set.has
+    ghost invariant = { λ q. IsWellFormed D.NameId.Set.has
         (queue_of q.tracked q.names.items q.hot_names q.woken)
         × AreEntered D.NameId.Slots.is_too_large (numbers_under D.NameId.Slots.value_at q.by_name) q.names.items };
 }

@@ -5,7 +5,7 @@ ghost use Rattle.std.specs.Prelude.{◌≡◌, ◌<◌, Some, None, true, false,
 ghost use Rattle.std.specs.Prelude.{IfSome, MatchOption, OnOk, IfOk, IfErr};
 ghost use Rattle.typed_ids.specs.declared.error.StoreError.TheVariants.{OutOfMemory};
 ghost use Rattle.resolvo_queue.specs.Pick.{best_offer, is_of_root, pick};
-ghost use Rattle.resolvo_queue.specs.Pick.Grounds.{AskedOn, BeginsPick, BestFrom, ColdOn, EligibleAt};
+ghost use Rattle.resolvo_queue.specs.Pick.Grounds.{CanDecideOn, BeginsPick, BestFrom, ColdOn, EligibleAt};
 ghost use Rattle.resolvo_queue.specs.Pick.Grounds.{ImprovedBy, grounds, offers_on, score_by};
 ghost use Rattle.resolvo_queue.specs.Pick.Groups.{IsNextOf, has_of, is_in, offers_of};
 ghost use Rattle.resolvo_queue.specs.Pick.Inspection.{offer_with};
@@ -17,10 +17,10 @@ ghost use Rattle.resolvo_queue.specs.Parts.{IsOfClause, set_of};
 ghost use Rattle.resolvo_queue.specs.declared.tracked_clause.Position.{Position as APosition};
 ghost use Rattle.resolvo_queue.specs.declared.tracked_clause.TrackedClause.{TrackedClause as ATrackedClause};
 
-use crate::asked::Question;
 use crate::group::Group;
 use crate::inspection::inspect;
 use crate::offer::{Candidate, Frontier, Offer};
+use crate::questions::Question;
 use crate::row_reader::RowReader;
 use crate::tracked_clause::{Position, TrackedClause};
 use crate::tracked_clauses::TrackedClauses;
@@ -38,13 +38,13 @@ fn inspect_at<I: Interner>(
     question: &Question<'_, I>,
 ) -> Result<Option<Frontier>, StoreError>
     requires of { IsOfClause tracked.old.index.clauses.items position }
-    requires asked { AskedOn (grounds I.universe I.NameId.Scores.value_at question.now reader.old) tracked.old }
+    requires decidable { CanDecideOn (grounds I.universe I.NameId.Scores.value_at question.now reader.old) tracked.old }
     ensures frontier { let on = grounds I.universe I.NameId.Scores.value_at question.now reader.old in
         IfOk result (EligibleAt on tracked.old position) }
     ensures set { IfOk result (λ f. IfSome f (λ g. (I.universe question.now.interner.now).knows_set g.set ≡ true)) }
     ensures fewer { IfOk result (λ f. f ≡ None → has tracked.old.queued.all position ≡ true →
         length tracked.new.queued.all < length tracked.old.queued.all) }
-    ensures asked { AskedOn (grounds I.universe I.NameId.Scores.value_at question.now reader.old) tracked.new }
+    ensures decidable { CanDecideOn (grounds I.universe I.NameId.Scores.value_at question.now reader.old) tracked.new }
     ensures walks { OnlyWalks tracked.old tracked.new reader.old reader.new }
     ensures memory { IfErr result (λ e. e ≡ OutOfMemory) }
 {
@@ -108,11 +108,11 @@ fn first_eligible<I: Interner>(
     reader: &mut RowReader<'_, I::Alloc>,
     question: &Question<'_, I>,
 ) -> Result<Option<Candidate>, StoreError>
-    requires asked { AskedOn (grounds I.universe I.NameId.Scores.value_at question.now reader.old) tracked.old }
+    requires decidable { CanDecideOn (grounds I.universe I.NameId.Scores.value_at question.now reader.old) tracked.old }
     ensures picked { let on = grounds I.universe I.NameId.Scores.value_at question.now reader.old in
         IfOk result (BeginsPick tracked.old.index.clauses.items (offers_of group (offers_on on))) }
     ensures of { IfOk result (λ o. IfSome o (λ b. is_in group b.position ≡ true)) }
-    ensures asked { AskedOn (grounds I.universe I.NameId.Scores.value_at question.now reader.old) tracked.new }
+    ensures decidable { CanDecideOn (grounds I.universe I.NameId.Scores.value_at question.now reader.old) tracked.new }
     ensures walks { OnlyWalks tracked.old tracked.new reader.old reader.new }
     ensures memory { IfErr result (λ e. e ≡ OutOfMemory) }
 {
@@ -167,10 +167,10 @@ fn improve<I: Interner>(
     question: &Question<'_, I>,
 ) -> Result<(), StoreError>
     requires of { IsOfClause tracked.old.index.clauses.items position }
-    requires asked { AskedOn (grounds I.universe I.NameId.Scores.value_at question.now reader.old) tracked.old }
+    requires decidable { CanDecideOn (grounds I.universe I.NameId.Scores.value_at question.now reader.old) tracked.old }
     ensures better { let on = grounds I.universe I.NameId.Scores.value_at question.now reader.old in
         OnOk result (ImprovedBy on tracked.old position best.old.offer best.new.offer) }
-    ensures asked { AskedOn (grounds I.universe I.NameId.Scores.value_at question.now reader.old) tracked.new }
+    ensures decidable { CanDecideOn (grounds I.universe I.NameId.Scores.value_at question.now reader.old) tracked.new }
     ensures walks { OnlyWalks tracked.old tracked.new reader.old reader.new }
     ensures memory { IfErr result (λ e. e ≡ OutOfMemory) }
 {
@@ -198,12 +198,12 @@ fn best_from<I: Interner>(
     question: &Question<'_, I>,
 ) -> Result<Option<Offer>, StoreError>
     requires of { is_in group first.position ≡ true }
-    requires asked { AskedOn (grounds I.universe I.NameId.Scores.value_at question.now reader.old) tracked.old }
+    requires decidable { CanDecideOn (grounds I.universe I.NameId.Scores.value_at question.now reader.old) tracked.old }
     requires cold { ColdOn (grounds I.universe I.NameId.Scores.value_at question.now reader.old) tracked.old }
     requires largest { AreUpTo question.now.largest (score_by I.universe I.NameId.Scores.value_at question.now) }
     ensures best { let on = grounds I.universe I.NameId.Scores.value_at question.now reader.old in
         IfOk result (BestFrom tracked.old.index.clauses.items (offers_of group (offers_on on)) first) }
-    ensures asked { AskedOn (grounds I.universe I.NameId.Scores.value_at question.now reader.old) tracked.new }
+    ensures decidable { CanDecideOn (grounds I.universe I.NameId.Scores.value_at question.now reader.old) tracked.new }
     ensures walks { OnlyWalks tracked.old tracked.new reader.old reader.new }
     ensures memory { IfErr result (λ e. e ≡ OutOfMemory) }
 {
@@ -227,12 +227,12 @@ fn best_of<I: Interner>(
     reader: &mut RowReader<'_, I::Alloc>,
     question: &Question<'_, I>,
 ) -> Result<Option<Offer>, StoreError>
-    requires asked { AskedOn (grounds I.universe I.NameId.Scores.value_at question.now reader.old) tracked.old }
+    requires decidable { CanDecideOn (grounds I.universe I.NameId.Scores.value_at question.now reader.old) tracked.old }
     requires cold { ColdOn (grounds I.universe I.NameId.Scores.value_at question.now reader.old) tracked.old }
     requires largest { AreUpTo question.now.largest (score_by I.universe I.NameId.Scores.value_at question.now) }
     ensures best { let on = grounds I.universe I.NameId.Scores.value_at question.now reader.old in
         IfOk result (λ o. o ≡ best_offer (offered tracked.old.index.clauses.items (offers_of group (offers_on on)))) }
-    ensures asked { AskedOn (grounds I.universe I.NameId.Scores.value_at question.now reader.old) tracked.new }
+    ensures decidable { CanDecideOn (grounds I.universe I.NameId.Scores.value_at question.now reader.old) tracked.new }
     ensures walks { OnlyWalks tracked.old tracked.new reader.old reader.new }
     ensures memory { IfErr result (λ e. e ≡ OutOfMemory) }
 {
@@ -248,12 +248,12 @@ fn best_of_root<I: Interner>(
     reader: &mut RowReader<'_, I::Alloc>,
     question: &Question<'_, I>,
 ) -> Result<Option<Offer>, StoreError>
-    requires asked { AskedOn (grounds I.universe I.NameId.Scores.value_at question.now reader.old) tracked.old }
+    requires decidable { CanDecideOn (grounds I.universe I.NameId.Scores.value_at question.now reader.old) tracked.old }
     requires cold { ColdOn (grounds I.universe I.NameId.Scores.value_at question.now reader.old) tracked.old }
     requires largest { AreUpTo question.now.largest (score_by I.universe I.NameId.Scores.value_at question.now) }
     ensures best { let on = grounds I.universe I.NameId.Scores.value_at question.now reader.old in
         IfOk result (λ o. o ≡ best_offer (filter is_of_root (offered tracked.old.index.clauses.items (offers_on on)))) }
-    ensures asked { AskedOn (grounds I.universe I.NameId.Scores.value_at question.now reader.old) tracked.new }
+    ensures decidable { CanDecideOn (grounds I.universe I.NameId.Scores.value_at question.now reader.old) tracked.new }
     ensures walks { OnlyWalks tracked.old tracked.new reader.old reader.new }
     ensures memory { IfErr result (λ e. e ≡ OutOfMemory) }
 {
@@ -269,12 +269,12 @@ pub(crate) fn next_offer<I: Interner>(
     reader: &mut RowReader<'_, I::Alloc>,
     question: &Question<'_, I>,
 ) -> Result<Option<Offer>, StoreError>
-    requires asked { AskedOn (grounds I.universe I.NameId.Scores.value_at question.now reader.old) tracked.old }
+    requires decidable { CanDecideOn (grounds I.universe I.NameId.Scores.value_at question.now reader.old) tracked.old }
     requires cold { ColdOn (grounds I.universe I.NameId.Scores.value_at question.now reader.old) tracked.old }
     requires largest { AreUpTo question.now.largest (score_by I.universe I.NameId.Scores.value_at question.now) }
     ensures picked { let on = grounds I.universe I.NameId.Scores.value_at question.now reader.old in
         IfOk result (λ o. o ≡ pick (offered tracked.old.index.clauses.items (offers_on on))) }
-    ensures asked { AskedOn (grounds I.universe I.NameId.Scores.value_at question.now reader.old) tracked.new }
+    ensures decidable { CanDecideOn (grounds I.universe I.NameId.Scores.value_at question.now reader.old) tracked.new }
     ensures walks { OnlyWalks tracked.old tracked.new reader.old reader.new }
     ensures memory { IfErr result (λ e. e ≡ OutOfMemory) }
 {

@@ -2,10 +2,10 @@
 ghost use Rattle.std.specs.Prelude.{◌≡◌, ◌<◌, ◌&&◌, length, option_map, IfSome};
 ghost use Rattle.decisions.specs.Decisions.{values_in};
 ghost use Rattle.resolvo_queue.specs.Falsified.{FindsFirst, comes_first, is_falsified_in, refs_of};
-ghost use Rattle.resolvo_queue.specs.Pick.Questions.{AreAskable};
+ghost use Rattle.resolvo_queue.specs.Pick.Questions.{CanInspectAll};
 ghost use Rattle.resolvo_queue.specs.References.{IsWalkable};
 
-use crate::asked::Asked;
+use crate::questions::FalsifiedQuestion;
 use crate::tracked_clause::TrackedClause;
 use providers::Interner;
 use std::alloc::Allocator;
@@ -14,15 +14,15 @@ use typed_ids::ClauseId;
 /// The first falsified clause of the scan: the falsified one with the least position.
 pub(crate) fn falsified_clause<I: Interner, A: Allocator + Copy>(
     clauses: &[TrackedClause],
-    asked: &Asked<'_, I, A>,
+    question: &FalsifiedQuestion<'_, I, A>,
 ) -> Option<TrackedClause>
-    requires askable { AreAskable (refs_of I.universe asked.now) clauses.now }
-    ensures { let refs = refs_of I.universe asked.now in
-        FindsFirst clauses.now (is_falsified_in refs (values_in asked.now.map.now)) result }
+    requires inspectable { CanInspectAll (refs_of I.universe question.now) clauses.now }
+    ensures { let refs = refs_of I.universe question.now in
+        FindsFirst clauses.now (is_falsified_in refs (values_in question.now.map.now)) result }
 {
     let mut first: Option<TrackedClause> = None;
     for clause in clauses {
-        if is_earlier(clause, &first, asked) {
+        if is_earlier(clause, &first, question) {
             first = Some(*clause);
         }
     }
@@ -43,14 +43,15 @@ pub(crate) fn id_of(clause: Option<TrackedClause>) -> Option<ClauseId>
 pub(crate) fn is_earlier<I: Interner, A: Allocator + Copy>(
     clause: &TrackedClause,
     found: &Option<TrackedClause>,
-    asked: &Asked<'_, I, A>,
+    question: &FalsifiedQuestion<'_, I, A>,
 ) -> bool
-    requires condition { IfSome clause.now.condition (λ d. d < length asked.now.disjunctions.now) }
-    requires walkable { IsWalkable (I.universe asked.now.interner.now) asked.now.lists.now clause.now.requirement }
-    ensures { let refs = refs_of I.universe asked.now in
-        result ≡ (comes_first clause.now found.now && is_falsified_in refs (values_in asked.now.map.now) clause.now) }
+    requires condition { IfSome clause.now.condition (λ d. d < length question.now.disjunctions.now) }
+    requires walkable { IsWalkable (I.universe question.now.interner.now) question.now.lists.now clause.now.requirement }
+    ensures { let refs = refs_of I.universe question.now in
+        result ≡ (comes_first clause.now found.now &&
+        is_falsified_in refs (values_in question.now.map.now) clause.now) }
 {
-    comes_first(clause, found) && asked.is_falsified(clause)
+    comes_first(clause, found) && question.is_falsified(clause)
 }
 
 /// Whether a clause stands before another one in the scan, if there is one.

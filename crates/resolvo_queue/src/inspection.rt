@@ -12,9 +12,9 @@ ghost use Rattle.resolvo_queue.specs.Occurrences.{is_listed, GrowsWith};
 ghost use Rattle.resolvo_queue.specs.Parts.{known_at, IsPlaceOf, OwesSame, SameFound};
 ghost use Rattle.resolvo_queue.specs.WalkCounts.{WalksOnce};
 
-use crate::asked::Question;
-use crate::condition::is_met;
+use crate::condition::condition_holds;
 use crate::offer::Frontier;
+use crate::questions::Question;
 use crate::requirements::{Requirements, Walk};
 use crate::row_reader::{Occurrences, RowReader};
 use crate::tracked_clause::TrackedClause;
@@ -75,7 +75,7 @@ fn requirement_frontier<I: Interner>(
         Walk::Unknown => {
             list_once(occurrences, reader, clause.requirement)?;
             let frontier = reader.walk(clause.requirement, question.map, question.interner);
-            requirements.keep(clause.record, &frontier);
+            requirements.store_walk(clause.record, &frontier);
             Ok(frontier)
         }
     }
@@ -114,7 +114,7 @@ pub(crate) fn inspect<I: Interner>(
         Some(true) => {}
         _ => return Ok(None),
     }
-    if !is_met(clause.condition, question.disjunctions, question.map) {
+    if !condition_holds(clause.condition, question.disjunctions, question.map) {
         return Ok(None);
     }
     requirement_frontier(requirements, occurrences, reader, clause, question)

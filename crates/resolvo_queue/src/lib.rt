@@ -8,11 +8,10 @@
 //! `decide_queue` has the queue, and `row_reader` the one way to the rows of requirements. `tracked_clauses` keeps the
 //! clauses, in the order of the scan by their `position`, and what may be eligible of them; `registering`, `heating`,
 //! `sync` and `deciding` are what is done with it. `clauses_by_name` finds clauses by the names of their packages.
-//! `falsification` goes through all clauses for a falsified one. `asked`, `inspection`, `row_state` and `condition`
+//! `falsification` goes through all clauses for a falsified one. `questions`, `inspection`, `row_state` and `condition`
 //! look at one clause.
 #![tactic(auto)]
 
-mod asked;
 mod clause_index;
 mod clauses_by_name;
 mod condition;
@@ -26,6 +25,7 @@ mod lists_by_variable;
 mod names;
 mod offer;
 mod position_set;
+mod questions;
 mod queue_decision;
 mod queued_clauses;
 mod registering;

@@ -173,7 +173,7 @@ impl<A: Allocator + Copy> Requirements<A> {
     }
 
     /// Keeps what a walk of the rows answered, and counts the walk.
-    pub(crate) fn keep(&mut self, place: usize, frontier: &Option<Frontier>)
+    pub(crate) fn store_walk(&mut self, place: usize, frontier: &Option<Frontier>)
         requires { place < length self.old }
         ensures walked { self.new ≡ updated_at (walked frontier.now) self.old place }
         ensures only { (requirement : ARequirement) (k : ℕ) → IsPlaceOf self.old requirement place →

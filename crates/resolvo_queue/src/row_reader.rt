@@ -67,7 +67,7 @@ impl<'l, A: Allocator + Copy> RowReader<'l, A> {
         self.log = self.log.and(&requirement);
         match requirement_state(map, self.lists, requirement, interner) {
             RowState::Undecided(frontier) => Some(frontier),
-            RowState::Met | RowState::AllFalse => None,
+            RowState::Satisfied | RowState::AllFalse => None,
         }
     }
 

@@ -15,7 +15,7 @@ use typed_ids::{VariableId, VersionSetId};
 /// A row is true, or else there is an undecided one, or else all are false.
 #[derive(Clone, Copy, Debug, PartialEq, Eq)]
 pub(crate) enum RowState {
-    Met,
+    Satisfied,
     Undecided(Frontier),
     AllFalse,
 }
@@ -31,9 +31,9 @@ fn with_row(
     ensures { result ≡ with_row state value (record { set = set; variable = variable }) }
 {
     match (value, state) {
-        (Some(true), _) => RowState::Met,
+        (Some(true), _) => RowState::Satisfied,
         (Some(false), _) => state,
-        (None, RowState::Met) => RowState::Met,
+        (None, RowState::Satisfied) => RowState::Satisfied,
         (None, RowState::AllFalse) => RowState::Undecided(Frontier {
             variable,
             set,
@@ -60,8 +60,8 @@ fn walk<A: Allocator + Copy>(
 {
     for variable in list {
         state = with_row(state, decisions.value(*variable), set, *variable);
-        if let RowState::Met = state {
-            return RowState::Met;
+        if let RowState::Satisfied = state {
+            return RowState::Satisfied;
         }
     }
     state
@@ -83,8 +83,8 @@ fn rows_state<A: Allocator + Copy>(
             return state;
         };
         state = walk(decisions, state, *set, list);
-        if let RowState::Met = state {
-            return RowState::Met;
+        if let RowState::Satisfied = state {
+            return RowState::Satisfied;
         }
         left = others;
     }

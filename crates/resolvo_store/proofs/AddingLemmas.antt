@@ -18,7 +18,7 @@ use Rattle.watch_map.specs.Watching.{is_literal_in}
 use Rattle.watch_map.specs.ClauseList.{Clauses, two_or_none, with_clause as pushed, with_learnt as learnt_one}
 use Rattle.resolvo_store.specs.Answers.{replied}
 use Rattle.resolvo_store.specs.Command.{Command, Disjunction, Learnt, Requires, Bump, Rewatch, Watchers, Reply, ClauseIs, Done, WatchersAre, Refused, IsRefused, is_saturate}
-use Rattle.resolvo_store.specs.Store.{Store, Provider, Kept, store_of, values, kept_literals, clause_literals, watched_by, lists_of}
+use Rattle.resolvo_store.specs.Store.{Store, Provider, StoreState, store_of, values, stored_of, clause_literals, watched_by, lists_of}
 use Rattle.resolvo_store.specs.Refusals.{first_refusal, are_disjunctions_out, are_clauses_out, is_learnt_out, clause_refusals, is_bad_learnt, may_rewatch, knows_clause, knows_literal, knows_variable, knows_pair, knows_disjunction, negates_parent}
 use Rattle.resolvo_store.specs.Adding.{is_direct, adding, names_known}
 use Rattle.resolvo_store.specs.Outcome.{outcome, adds_clause, with_clause, with_learnt, with_registered, with_rewatched}
@@ -333,7 +333,7 @@ module _ {N S : Type 0} (st : Store N S) where
       step_refused c out e plain first memory (growth_refusal out e refused (λ h. cc (ids_out h))) err
 
 -- a clause with its watches
-pub with_made : {N S : Type 0} (st : Store N S) (clause : Clause N) {watch : Option (List Lit)} → watch ≡ first_watches (kept_literals st) (values st) clause
+pub with_made : {N S : Type 0} (st : Store N S) (clause : Clause N) {watch : Option (List Lit)} → watch ≡ first_watches (stored_of st) (values st) clause
     → with_clause st clause (two_or_none watch) ≡ (adds_clause st clause).store
 with_made st clause same = ap (λ x. with_clause st clause (two_or_none x)) same
 
@@ -351,7 +351,7 @@ last_at_end (y ∷ xs) x = last_at_end xs x
 
 -- a learnt clause watches the ends of its literals
 pub learnt_watches : {N S : Type 0} (st : Store N S) (ls : List Lit)
-    → watch_ends ls ≡ (let c : Clause N = Kind.Learnt (length st.learnt) in first_watches (kept_literals (with_learnt st ls)) (values (with_learnt st ls)) c)
+    → watch_ends ls ≡ (let c : Clause N = Kind.Learnt (length st.learnt) in first_watches (stored_of (with_learnt st ls)) (values (with_learnt st ls)) c)
 learnt_watches st ls = ap (λ o. watch_ends (unwrap_or o [])) (sym (last_at_end st.learnt ls))
 
 -- what is true is true of each success, and of each failure
@@ -365,18 +365,18 @@ always_err (Err e) p = p
 
 -- the same of what is kept, where the list of clauses answers
 module _ {D N S C : Type 0} (provided : D → Provider N S) (scored : C → N → ℕ) where
-  abbrev store : Kept D N S C → Store N S
+  abbrev store : StoreState D N S C → Store N S
   store = store_of provided scored
 
   -- the store of what is kept, with another list of clauses and another queue
-  abbrev with_both : Kept D N S C → Clauses N → List RequiresClause → Store N S
+  abbrev with_both : StoreState D N S C → Clauses N → List RequiresClause → Store N S
   with_both kept cs requires = record (store kept) { clauses = cs.clauses; watches = cs.watches; watchers = cs.watchers; learnt = cs.learnt; requires = requires }
 
   -- the list of clauses in what is kept
-  abbrev clauses_kept : Kept D N S C → Clauses N
+  abbrev clauses_kept : StoreState D N S C → Clauses N
   clauses_kept kept = record { clauses = kept.clauses; watches = (store kept).watches; learnt = kept.learnt; watchers = (store kept).watchers }
 
-  answered : {T : Type 0} (says : T → Reply) (c : Command N S) (conflict out : Bool) (result : Result T StoreError) (kept : Kept D N S C)
+  answered : {T : Type 0} (says : T → Reply) (c : Command N S) (conflict out : Bool) (result : Result T StoreError) (kept : StoreState D N S C)
       (cs more : Clauses N) (requires registered : List RequiresClause)
       → is_saturate c ≡ false → first_refusal (store kept) c ≡ cond out (Some IdSpace) None → lacks_ids (store kept) c ≡ false → takes_no_memory (store kept) c ≡ false
       → ClauseIs (length kept.clauses) conflict ≡ (outcome (store kept) c).reply → with_both kept more registered ≡ (outcome (store kept) c).store
@@ -395,9 +395,9 @@ module _ {D N S C : Type 0} (provided : D → Provider N S) (scored : C → N �
 
   -- where the list is asked to add a clause that the command names whole
   pub step_added : {T : Type 0} (says : T → Reply) (clause : Clause N) (watch : Option (List Lit)) (conflict : Bool) (result : Result T StoreError)
-      (cs : Clauses N) {kept old : Kept D N S C} (is : kept ≡ old) → is_direct clause ≡ true
+      (cs : Clauses N) {kept old : StoreState D N S C} (is : kept ≡ old) → is_direct clause ≡ true
       → names_known (provided kept.provider).universe (length kept.origins) clause ≡ true
-      → watch ≡ first_watches (kept_literals (store kept)) (values (store kept)) clause → conflict ≡ is_conflict (kept_literals (store kept)) (values (store kept)) clause
+      → watch ≡ first_watches (stored_of (store kept)) (values (store kept)) clause → conflict ≡ is_conflict (stored_of (store kept)) (values (store kept)) clause
       → IfOk result (λ reply. says reply ≡ ClauseIs (length kept.clauses) conflict)
       → OnOk result (cs ≡ pushed (clauses_kept kept) clause watch)
       → OnErr result (cs ≡ clauses_kept kept)
@@ -414,7 +414,7 @@ module _ {D N S C : Type 0} (provided : D → Provider N S) (scored : C → N �
       (with_made (store kept) clause w ∙ ap (λ o. o.store) adds.2) said ok (always result refl) err (always_err result refl) refused ids_out)
 
   -- where it is asked to add a learnt one
-  pub step_learnt : {T : Type 0} (says : T → Reply) (ls : List Lit) (result : Result T StoreError) (cs : Clauses N) {kept old : Kept D N S C} (is : kept ≡ old)
+  pub step_learnt : {T : Type 0} (says : T → Reply) (ls : List Lit) (result : Result T StoreError) (cs : Clauses N) {kept old : StoreState D N S C} (is : kept ≡ old)
       → first_refusal (store kept) (Learnt ls) ≡ cond (is_learnt_out (store kept)) (Some IdSpace) None
       → IfOk result (λ reply. says reply ≡ ClauseIs (length kept.clauses) false)
       → OnOk result (cs ≡ learnt_one (clauses_kept kept) ls)
@@ -431,10 +431,10 @@ module _ {D N S C : Type 0} (provided : D → Provider N S) (scored : C → N �
 
   -- where it is asked to add a requires clause, and the queue to register it
   pub step_registered : {T : Type 0} (says : T → Reply) (parent : ℕ) (r : Requirement) (disjunction : Option ℕ) {clause : Clause N} (watch : Option (List Lit)) (conflict : Bool)
-      (result : Result T StoreError) (cs : Clauses N) (requires : List RequiresClause) {kept old : Kept D N S C} (is : kept ≡ old)
+      (result : Result T StoreError) (cs : Clauses N) (requires : List RequiresClause) {kept old : StoreState D N S C} (is : kept ≡ old)
       → clause ≡ Kind.Requires parent disjunction r
       → first_refusal (store kept) (Requires parent r disjunction) ≡ cond (are_clauses_out (store kept)) (Some IdSpace) None
-      → watch ≡ first_watches (kept_literals (store kept)) (values (store kept)) clause → conflict ≡ is_conflict (kept_literals (store kept)) (values (store kept)) clause
+      → watch ≡ first_watches (stored_of (store kept)) (values (store kept)) clause → conflict ≡ is_conflict (stored_of (store kept)) (values (store kept)) clause
       → IfOk result (λ reply. says reply ≡ ClauseIs (length kept.clauses) conflict)
       → OnOk result (cs ≡ pushed (clauses_kept kept) clause watch)
       → OnOk result (requires ≡ kept.requires ++ record { parent = parent; requirement = r; condition = disjunction; clause_id = length kept.clauses } ∷ [])

@@ -12,8 +12,8 @@ use Rattle.providers.specs.Requirement.{same_requirement}
 use Rattle.providers.specs.Provider.{Universe, knows_requirement, sets_of}
 use Rattle.decisions.specs.Literals.{Lit, Values}
 use Rattle.decisions.specs.Trail.{Trail}
-use Rattle.clauses.specs.Clauses.{Kept as KeptLiterals, condition_literals}
-use Rattle.clauses.specs.Stored.{kept_in}
+use Rattle.clauses.specs.Clauses.{StoredLiterals, condition_literals}
+use Rattle.clauses.specs.Stored.{stored_in}
 use Rattle.clauses.specs.declared.disjunction.Disjunction.{Disjunction}
 use Rattle.solver_cache.specs.Cache.{Cache}
 use Rattle.resolvo_queue.specs.Queue.{Queue}
@@ -21,7 +21,7 @@ use Rattle.resolvo_queue.specs.References.{References, CanWalk, references, lite
 use Rattle.resolvo_queue.specs.declared.requires_clause.RequiresClause.{RequiresClause}
 use Rattle.typed_ids.specs.declared.version_set_id.VersionSetId.{VersionSetId}
 use Rattle.resolvo_queue.specs.Rows.{Row, rows, lists_loaded, lists_or_none}
-use Rattle.resolvo_store.specs.Lists.{lists_kept, disjunctions_kept, IsConsistent}
+use Rattle.resolvo_store.specs.Lists.{lists_of_loaded, stored_disjunctions, IsConsistent}
 use Rattle.resolvo_store.specs.Store.{Store}
 use Rattle.resolvo_store.proofs.ListLemmas.{items_of, disjunctions-kept, rows-kept}
 
@@ -42,21 +42,21 @@ Question = Values → (Option ℕ → List Lit) → (Requirement → List Row) �
 
 module _ {N S A : Type 0} (universe : Universe N S) where
   -- so has each requirement that has an entry
-  one_each : (loaded : List (Requirement × Vec (Vec ℕ A) A)) (r : Requirement) → All (HasOneEach universe) (lists_kept loaded) → is_some (lookup (same_requirement r) loaded) ≡ true
+  one_each : (loaded : List (Requirement × Vec (Vec ℕ A) A)) (r : Requirement) → All (HasOneEach universe) (lists_of_loaded loaded) → is_some (lookup (same_requirement r) loaded) ≡ true
       → length (lists_loaded loaded r) ≡ length (sets_of universe r)
   one_each [] r all found = (let no : false ≡ true = found in cc)
-  one_each (e ∷ es) r all found = by_same (same_requirement r e.0) refl (one_each es r (All-tail (HasOneEach universe) (e.0, items_of e.1) (lists_kept es) all)) found
+  one_each (e ∷ es) r all found = by_same (same_requirement r e.0) refl (one_each es r (All-tail (HasOneEach universe) (e.0, items_of e.1) (lists_of_loaded es) all)) found
     where
       by_same : (b : Bool) → same_requirement r e.0 ≡ b
           → (is_some (lookup (same_requirement r) es) ≡ true → length (lists_or_none (lookup (same_requirement r) es)) ≡ length (sets_of universe r))
           → is_some (cond b (Some e.1) (lookup (same_requirement r) es)) ≡ true
           → length (lists_or_none (cond b (Some e.1) (lookup (same_requirement r) es))) ≡ length (sets_of universe r)
-      by_same true same later k = All-head (HasOneEach universe) (e.0, items_of e.1) (lists_kept es) all ∙ ap (λ q. length (sets_of universe q)) (sym (same_is r e.0 same))
+      by_same true same later k = All-head (HasOneEach universe) (e.0, items_of e.1) (lists_of_loaded es) all ∙ ap (λ q. length (sets_of universe q)) (sym (same_is r e.0 same))
       by_same false same later k = later k
 
   -- the literals of conditions are those of the abstract store
   pub condition_seen : (ds : List (Disjunction A)) (learnt : List (List Lit)) (lists : Requirement → List (List ℕ)) (d : Option ℕ)
-      → condition_literals (kept_in [] [] ds) d ≡ condition_literals (record { learnt = learnt; lists = lists; disjunctions = map (λ x. x.literals) (disjunctions_kept ds) }) d
+      → condition_literals (stored_in [] [] ds) d ≡ condition_literals (record { learnt = learnt; lists = lists; disjunctions = map (λ x. x.literals) (stored_disjunctions ds) }) d
   condition_seen ds learnt lists None = refl
   condition_seen ds learnt lists (Some i) = ap (λ ls. unwrap_or (slice_get ls i) []) (disjunctions-kept ds)
 
@@ -64,23 +64,23 @@ module _ {N S A : Type 0} (universe : Universe N S) where
   pub seen_by_store : (loaded : List (Requirement × Vec (Vec ℕ A) A)) (ds : List (Disjunction A)) (learnt : List (List Lit)) (lists : Requirement → List (List ℕ)) {seen val : Values}
       (P : Values → (Option ℕ → List Lit) → (Requirement → List Row) → Type 0) → seen ≡ val
       → P seen (literals_in (references universe loaded ds)) (rows_in (references universe loaded ds))
-      → P val (λ d. condition_literals (record { learnt = learnt; lists = lists; disjunctions = map (λ x. x.literals) (disjunctions_kept ds) }) d)
-      (λ r. rows (sets_of universe r) (unwrap_or (lookup (same_requirement r) (lists_kept loaded)) []))
+      → P val (λ d. condition_literals (record { learnt = learnt; lists = lists; disjunctions = map (λ x. x.literals) (stored_disjunctions ds) }) d)
+      (λ r. rows (sets_of universe r) (unwrap_or (lookup (same_requirement r) (lists_of_loaded loaded)) []))
   seen_by_store loaded ds learnt lists {seen} {val} P same h =
       let refs : References N S A = references universe loaded ds in
       subst (λ rows_of. P val (λ d. condition_literals kept d) rows_of) (rows-kept universe loaded)
       (subst (λ literals_of. P val literals_of (rows_in refs)) (fun_ext (condition_seen ds learnt lists)) (subst (λ v. P v (literals_in refs) (rows_in refs)) same h))
     where
-      kept : KeptLiterals
-      kept = record { learnt = learnt; lists = lists; disjunctions = map (λ x. x.literals) (disjunctions_kept ds) }
+      kept : StoredLiterals
+      kept = record { learnt = learnt; lists = lists; disjunctions = map (λ x. x.literals) (stored_disjunctions ds) }
 
   -- so what it answers is true of the abstract store
   pub asked_as_store : (loaded : List (Requirement × Vec (Vec ℕ A) A)) (ds : List (Disjunction A)) (learnt : List (List Lit)) (lists : Requirement → List (List ℕ))
       {told : Universe N S} {shown : List (Requirement × Vec (Vec ℕ A) A)} {seen val : Values} {given scores : N → ℕ} {asked registered : List RequiresClause} (P : Question)
       → told ≡ universe → shown ≡ loaded → seen ≡ val → given ≡ scores → asked ≡ registered
       → P seen (literals_in (references told shown ds)) (rows_in (references told shown ds)) (score_in (references told shown ds) given) asked
-      → P val (λ d. condition_literals (record { learnt = learnt; lists = lists; disjunctions = map (λ x. x.literals) (disjunctions_kept ds) }) d)
-      (λ r. rows (sets_of universe r) (unwrap_or (lookup (same_requirement r) (lists_kept loaded)) [])) (λ v. scores (universe.set_name v)) registered
+      → P val (λ d. condition_literals (record { learnt = learnt; lists = lists; disjunctions = map (λ x. x.literals) (stored_disjunctions ds) }) d)
+      (λ r. rows (sets_of universe r) (unwrap_or (lookup (same_requirement r) (lists_of_loaded loaded)) [])) (λ v. scores (universe.set_name v)) registered
   asked_as_store loaded ds learnt lists {told = told} {shown = shown} {seen = seen} {val = val} {given = given} {scores = scores} {asked = asked} {registered = registered} P same_universe same_lists same_values same_scores same_clauses h =
       let refs : References N S A = references universe loaded ds in
       seen_by_store loaded ds learnt lists {seen = seen} {val = val} (λ v literals_of rows_of. P v literals_of rows_of (λ x. scores (universe.set_name x)) registered) same_values
@@ -93,8 +93,8 @@ module _ {N S A : Type 0} (universe : Universe N S) where
   pub asked_by_store : (loaded : List (Requirement × Vec (Vec ℕ A) A)) (ds : List (Disjunction A)) (learnt : List (List Lit)) (lists : Requirement → List (List ℕ))
       {told : Universe N S} {shown : List (Requirement × Vec (Vec ℕ A) A)} {seen val : Values} {given scores : N → ℕ} {asked registered : List RequiresClause} (P : Question)
       → told ≡ universe → shown ≡ loaded → seen ≡ val → given ≡ scores → asked ≡ registered
-      → P val (λ d. condition_literals (record { learnt = learnt; lists = lists; disjunctions = map (λ x. x.literals) (disjunctions_kept ds) }) d)
-      (λ r. rows (sets_of universe r) (unwrap_or (lookup (same_requirement r) (lists_kept loaded)) [])) (λ v. scores (universe.set_name v)) registered
+      → P val (λ d. condition_literals (record { learnt = learnt; lists = lists; disjunctions = map (λ x. x.literals) (stored_disjunctions ds) }) d)
+      (λ r. rows (sets_of universe r) (unwrap_or (lookup (same_requirement r) (lists_of_loaded loaded)) [])) (λ v. scores (universe.set_name v)) registered
       → P seen (literals_in (references told shown ds)) (rows_in (references told shown ds)) (score_in (references told shown ds) given) asked
   asked_by_store loaded ds learnt lists {told = told} {shown = shown} {seen = seen} {val = val} {given = given} {scores = scores} {asked = asked} {registered = registered} P same_universe same_lists same_values same_scores same_clauses =
       let refs : References N S A = references told shown ds in
@@ -103,10 +103,10 @@ module _ {N S A : Type 0} (universe : Universe N S) where
 
 module _ {D N S A H Q : Type 0} {has : Q → N → Bool} {st : Store N S} {loaded : List (Requirement × Vec (Vec ℕ A) A)} {disjunctions : List (Disjunction A)}
     {cache : Cache D N S A H} {queue : Queue N Q} {trail : Trail} (is : IsConsistent has st loaded disjunctions cache queue trail)
-    (requires : st.requires ≡ queue.clauses) (kept : st.loaded ≡ lists_kept loaded) where
+    (requires : st.requires ≡ queue.clauses) (kept : st.loaded ≡ lists_of_loaded loaded) where
   -- the rows of each registered clause can be walked
   pub can_walk : All (CanWalk (references st.provider.universe loaded disjunctions)) queue.clauses
-  can_walk = λ k d within. (let parts = is.may_ask.stands.parts k d within in record {
+  can_walk = λ k d within. (let parts = is.may_decide.stands.parts k d within in record {
     known = known k d within;
     entry = parts.lists;
     one_a_set = one_each st.provider.universe loaded _ entries parts.lists;
@@ -116,5 +116,5 @@ module _ {D N S A H Q : Type 0} {has : Q → N → Bool} {st : Store N S} {loade
       known : All (λ c. knows_requirement st.provider.universe c.requirement ≡ true) queue.clauses
       known = subst (λ cs. All (λ c. knows_requirement st.provider.universe c.requirement ≡ true) cs) requires is.known
 
-      entries : All (HasOneEach st.provider.universe) (lists_kept loaded)
+      entries : All (HasOneEach st.provider.universe) (lists_of_loaded loaded)
       entries = subst (λ es. All (HasOneEach st.provider.universe) es) kept (λ k d within. (is.sound.loaded k d within).one_a_set)

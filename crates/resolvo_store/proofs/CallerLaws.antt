@@ -13,7 +13,7 @@ use Rattle.typed_ids.specs.declared.error.StoreError.{StoreError}
 use Rattle.typed_ids.specs.declared.error.StoreError.TheVariants.{OutOfMemory, IdSpace, LevelOutOfRange}
 use Rattle.providers.specs.declared.requirement.Requirement.{Requirement}
 use Rattle.decisions.specs.Literals.{known_true}
-use Rattle.decisions.specs.Trail.{Entry, val, kept_until, HasLevel}
+use Rattle.decisions.specs.Trail.{Entry, val, entries_until, HasLevel}
 use Rattle.decisions.proofs.TrailLemmas.{val-push}
 use Rattle.resolvo_queue.specs.declared.offer.Frontier.{Frontier}
 use Rattle.resolvo_queue.specs.declared.requires_clause.RequiresClause.{RequiresClause}
@@ -30,7 +30,7 @@ use Rattle.resolvo_store.specs.Step.{HasOutcome, IsAnswered, Step, may_be_refuse
 use Rattle.resolvo_store.specs.Solved.{IsSolved}
 use Rattle.resolvo_store.specs.Sound.{IsSound, IsAssigned}
 use Rattle.resolvo_store.specs.Models.{IsModel, IsModelNow, true_alone, MayLeaveFalse}
-use Rattle.resolvo_store.specs.Saturating.{HasForcedMore, HasSettled}
+use Rattle.resolvo_store.specs.Saturating.{HasImpliedMore, HasSettled}
 use Rattle.resolvo_store.proofs.ModelLaws.{models_kept, conflict_rules_out}
 use Rattle.resolvo_store.proofs.RunLemmas.{has_outcome}
 use Rattle.resolvo_store.proofs.SaturatedLaws.{saturated_so_far, saturate_answered}
@@ -128,9 +128,9 @@ scan_has_each cs =
 -- ---- what a reply tells
 
 -- levels begin at 1, so none is kept below it
-none_kept : (es : List Entry) → All HasLevel es → kept_until 0 es ≡ []
+none_kept : (es : List Entry) → All HasLevel es → entries_until 0 es ≡ []
 none_kept [] levels = refl
-none_kept (e ∷ es) levels = ap (λ b. cond b [] (e ∷ kept_until 0 es)) (above (e ∷ es) levels)
+none_kept (e ∷ es) levels = ap (λ b. cond b [] (e ∷ entries_until 0 es)) (above (e ∷ es) levels)
   where
     above : (fs : List Entry) → All HasLevel fs → list_all (λ f. nat_lt 0 f.level) fs ≡ true
     above [] all = refl
@@ -274,11 +274,11 @@ module _ {N S : Type 0} where
   -- ---- a Saturate
 
   -- whatever it replies, the trail has more forced entries, or as many
-  pub forces_more : (old new : Store N S) (level : ℕ) (reply : Reply) → Step old (Saturate level) reply new → HasForcedMore level old new
+  pub forces_more : (old new : Store N S) (level : ℕ) (reply : Reply) → Step old (Saturate level) reply new → HasImpliedMore level old new
   forces_more old new level reply step = elim (saturate_answered old new level reply step) [
-    | inl refused ↦ record { added = []; longer = ap (λ st. st.trail) refused.1 ∙ sym (append-nil old.trail); forced = tt }
+    | inl refused ↦ record { added = []; longer = ap (λ st. st.trail) refused.1 ∙ sym (append-nil old.trail); implied = tt }
     | inr is ↦ (let so_far = saturated_so_far level old new reply is.1 in
-        record { added = so_far.added; longer = ap (λ st. st.trail) so_far.rest; forced = so_far.forced })
+        record { added = so_far.added; longer = ap (λ st. st.trail) so_far.rest; implied = so_far.implied })
   ]
 
   -- and each model is one still

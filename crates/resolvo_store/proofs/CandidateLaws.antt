@@ -19,9 +19,9 @@ use Rattle.resolvo_store.specs.Store.{Store, Provider, new_store, lists_of, cand
 use Rattle.resolvo_store.specs.Tracking.{forbidding}
 use Rattle.resolvo_store.specs.Outcome.{Outcome, outcome, load, variables_loaded, hands_next, adds_clause, tracking, with_bits, with_tracked}
 use Rattle.resolvo_store.specs.Step.{Step, Run}
-use Rattle.resolvo_store.specs.Keeping.{Keeps, IsOfCandidates, AreCandidates, candidate_variables}
+use Rattle.resolvo_store.specs.Growth.{OnlyGrows, IsOfCandidates, AreCandidates, candidate_variables}
 use Rattle.resolvo_store.proofs.CallerLaws.{answered_by_outcome}
-use Rattle.resolvo_store.proofs.KeepingLaws.{begun, keeps_load, Keeps-outcome, Keeps-step}
+use Rattle.resolvo_store.proofs.KeepingLaws.{begun, keeps_load, OnlyGrows-outcome, OnlyGrows-step}
 use Rattle.resolvo_store.proofs.KnownLemmas.{IsLawful}
 use Rattle.resolvo_store.proofs.PartLaws.{All-lists, same_requirement-equivalence}
 use Rattle.resolvo_store.proofs.SoundSteps.{step_store, step_saturated}
@@ -116,10 +116,10 @@ module _ {N S : Type 0} where
       sets : List VersionSetId
       sets = sets_of old.provider.universe entry.0
 
-  entry_kept : (old new : Store N S) → Keeps old new → (entry : Requirement × List (List ℕ)) → IsOfCandidates old entry → IsOfCandidates new entry
+  entry_kept : (old new : Store N S) → OnlyGrows old new → (entry : Requirement × List (List ℕ)) → IsOfCandidates old entry → IsOfCandidates new entry
   entry_kept old new kept = entry_among_more old new (drop (length old.origins) new.origins) kept.provider (begun old.origins new.origins kept.origins)
 
-  candidates_kept : (old new : Store N S) → Keeps old new → new.loaded ≡ old.loaded → AreCandidates old → AreCandidates new
+  candidates_kept : (old new : Store N S) → OnlyGrows old new → new.loaded ≡ old.loaded → AreCandidates old → AreCandidates new
   candidates_kept old new kept same are =
       subst (λ (es : List (Requirement × List (List ℕ))). All (IsOfCandidates new) es) (sym same)
       (All-weaker (IsOfCandidates old) (IsOfCandidates new) (entry_kept old new kept) old.loaded are)
@@ -157,7 +157,7 @@ module _ {N S : Type 0} where
           All-push (IsOfCandidates new) st.loaded (r, variables_loaded st r)
           (All-weaker (IsOfCandidates st) (IsOfCandidates new) (entry_kept st new (keeps_load st r None)) st.loaded are)
           (record { have = all_have st.provider.same_solvable lawful.reflexive st.origins (all_candidates st r); lists = refl })
-  candidates_outcome st lawful d are = candidates_kept st (outcome st d).store (Keeps-outcome st lawful d) (outcome_loaded st d refl) are
+  candidates_outcome st lawful d are = candidates_kept st (outcome st d).store (OnlyGrows-outcome st lawful d) (outcome_loaded st d refl) are
 
   -- ---- new stores, steps and runs
 
@@ -181,7 +181,7 @@ module _ {N S : Type 0} where
       by_command : (d : Command N S) → Step old d reply new → AreCandidates new
       by_command (Saturate level) s = elim (step_saturated old new level reply s) [
         | inl left ↦ same left
-        | inr done ↦ candidates_kept old new (Keeps-step old new (Saturate level) reply lawful s) (ap (λ (st : Store N S). st.loaded) done.1.rest) are
+        | inr done ↦ candidates_kept old new (OnlyGrows-step old new (Saturate level) reply lawful s) (ap (λ (st : Store N S). st.loaded) done.1.rest) are
       ]
       by_command d s = plainly d refl s
 
@@ -189,7 +189,7 @@ module _ {N S : Type 0} where
   pub AreCandidates-run : (old new : Store N S) (cs : List (Command N S)) (replies : List Reply) → IsLawful old.provider → AreCandidates old → Run old cs replies new → AreCandidates new
   AreCandidates-run old new [] [] lawful are ran = subst (λ (st : Store N S). AreCandidates st) (sym ran) are
   AreCandidates-run old new (c ∷ cs) (reply ∷ replies) lawful are ran =
-      let first = Keeps-step old ran.0 c reply lawful ran.1 in
+      let first = OnlyGrows-step old ran.0 c reply lawful ran.1 in
       AreCandidates-run ran.0 new cs replies (subst (λ (p : Provider N S). IsLawful p) (sym first.provider) lawful)
       (AreCandidates-step old ran.0 c reply lawful are ran.1) ran.2
   AreCandidates-run old new [] (reply ∷ replies) lawful are ran = absurd ran

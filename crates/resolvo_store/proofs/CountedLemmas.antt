@@ -10,7 +10,7 @@ use Rattle.std.proofs.Math.Path.{fun_ext}
 use Rattle.std.proofs.lemmas.Bool.{eqb-true, eq-eqb, le-ltb}
 use Rattle.std.proofs.lemmas.List.{length-append, length-map, map_push, take-append-le}
 use Rattle.decisions.specs.Literals.{Lit, Pos, Neg, known_false}
-use Rattle.decisions.specs.Trail.{Entry, Trail, val, level_of, kept_until, IsOnce, AddsEntry}
+use Rattle.decisions.specs.Trail.{Entry, Trail, val, level_of, entries_until, IsOnce, AddsEntry}
 use Rattle.decisions.specs.declared.decision.Decision.{Decision}
 use Rattle.decisions.specs.declared.decision_tracker.AddFault.{AddFault}
 use Rattle.decisions.proofs.TrailLemmas.{val-push}
@@ -200,16 +200,16 @@ some_low l (x ∷ es) (suc i) e at low = go (nat_lt l x.level) (some_low l es i 
     go false h = refl
 
 -- an undo to a level leaves what isn't above it
-pub stays_below : (l : ℕ) (es : List Entry) (i : ℕ) (e : Entry) → slice_get es i ≡ Some e → e.level ≤ l → i < length (kept_until l es)
+pub stays_below : (l : ℕ) (es : List Entry) (i : ℕ) (e : Entry) → slice_get es i ≡ Some e → e.level ≤ l → i < length (entries_until l es)
 stays_below l [] i e at low = cc
 stays_below l (x ∷ es) zero e at low =
-    let left : length (kept_until l (x ∷ es)) ≡ suc (length (kept_until l es)) =
-    ap (λ b. length (cond b [] (x ∷ kept_until l es))) (some_low l (x ∷ es) zero e at low) in
+    let left : length (entries_until l (x ∷ es)) ≡ suc (length (entries_until l es)) =
+    ap (λ b. length (cond b [] (x ∷ entries_until l es))) (some_low l (x ∷ es) zero e at low) in
     omega (arith, left)
 stays_below l (x ∷ es) (suc i) e at low =
     let rest = stays_below l es i e at low in
-    let left : length (kept_until l (x ∷ es)) ≡ suc (length (kept_until l es)) =
-    ap (λ b. length (cond b [] (x ∷ kept_until l es))) (some_low l (x ∷ es) (suc i) e at low) in
+    let left : length (entries_until l (x ∷ es)) ≡ suc (length (entries_until l es)) =
+    ap (λ b. length (cond b [] (x ∷ entries_until l es))) (some_low l (x ∷ es) (suc i) e at low) in
     omega (arith, rest, left)
 
 -- ---- another trail

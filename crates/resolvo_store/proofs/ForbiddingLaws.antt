@@ -14,7 +14,7 @@ use Rattle.at_most_once.specs.AtMostOne.{BitClause}
 use Rattle.at_most_once.proofs.CallerLaws.{encodes}
 use Rattle.resolvo_store.specs.Store.{Store, bits}
 use Rattle.resolvo_store.specs.Tracking.{bits_of}
-use Rattle.resolvo_store.specs.ForbidsTwo.{is_forbidding, is_met, ForbidsTwo}
+use Rattle.resolvo_store.specs.ForbidsTwo.{is_forbidding, is_satisfied, ForbidsTwo}
 use Rattle.resolvo_store.specs.Sound.{IsSound}
 
 -- equality of numbers is an equivalence
@@ -38,24 +38,24 @@ met_false false b = refl
 
 module _ {N S : Type 0} (st : Store N S) (named : N → Bool) (a : ℕ → Bool) where
   abbrev AreMet : List (Clause N) → Type 0
-  AreMet cs = AllByRecursion (λ c. is_met st a c ≡ true) (filter (is_forbidding named) cs)
+  AreMet cs = AllByRecursion (λ c. is_satisfied st a c ≡ true) (filter (is_forbidding named) cs)
 
   abbrev BitsMet : List (Clause N) → Type 0
-  BitsMet cs = one.AreMet one.is_met a (flat_map (bits_of named) cs)
+  BitsMet cs = one.SatisfiesAll one.is_satisfied a (flat_map (bits_of named) cs)
 
   -- the clauses are met, and so are the bits that are read back of them
   pub bits_met : (cs : List (Clause N)) → AreMet cs → BitsMet cs
   bits_met [] met = tt
   bits_met (Kind.ForbidMultipleInstances x (Pos h) n ∷ cs) met = by_name (named n) (bits_met cs) met
     where
-      by_name : (b : Bool) → (AreMet cs → BitsMet cs) → AllByRecursion (λ c. is_met st a c ≡ true) (cond b (Kind.ForbidMultipleInstances x (Pos h) n ∷ filter (is_forbidding named) cs) (filter (is_forbidding named) cs))
-          → one.AreMet one.is_met a ((if b then (x, h, true) ∷ [] else []) ++ flat_map (bits_of named) cs)
+      by_name : (b : Bool) → (AreMet cs → BitsMet cs) → AllByRecursion (λ c. is_satisfied st a c ≡ true) (cond b (Kind.ForbidMultipleInstances x (Pos h) n ∷ filter (is_forbidding named) cs) (filter (is_forbidding named) cs))
+          → one.SatisfiesAll one.is_satisfied a ((if b then (x, h, true) ∷ [] else []) ++ flat_map (bits_of named) cs)
       by_name true later all = (sym (met_true (a x) (a h)) ∙ all.0, later all.1)
       by_name false later all = later all
   bits_met (Kind.ForbidMultipleInstances x (Neg h) n ∷ cs) met = by_name (named n) (bits_met cs) met
     where
-      by_name : (b : Bool) → (AreMet cs → BitsMet cs) → AllByRecursion (λ c. is_met st a c ≡ true) (cond b (Kind.ForbidMultipleInstances x (Neg h) n ∷ filter (is_forbidding named) cs) (filter (is_forbidding named) cs))
-          → one.AreMet one.is_met a ((if b then (x, h, false) ∷ [] else []) ++ flat_map (bits_of named) cs)
+      by_name : (b : Bool) → (AreMet cs → BitsMet cs) → AllByRecursion (λ c. is_satisfied st a c ≡ true) (cond b (Kind.ForbidMultipleInstances x (Neg h) n ∷ filter (is_forbidding named) cs) (filter (is_forbidding named) cs))
+          → one.SatisfiesAll one.is_satisfied a ((if b then (x, h, false) ∷ [] else []) ++ flat_map (bits_of named) cs)
       by_name true later all = (sym (met_false (a x) (a h)) ∙ all.0, later all.1)
       by_name false later all = later all
   bits_met (_ ∷ cs) met = bits_met cs met
@@ -65,14 +65,14 @@ module _ {N S : Type 0} (st : Store N S) (named : N → Bool) (a : ℕ → Bool)
   clauses_met [] met = tt
   clauses_met (Kind.ForbidMultipleInstances x (Pos h) n ∷ cs) met = by_name (named n) (clauses_met cs) met
     where
-      by_name : (b : Bool) → (BitsMet cs → AreMet cs) → one.AreMet one.is_met a ((if b then (x, h, true) ∷ [] else []) ++ flat_map (bits_of named) cs)
-          → AllByRecursion (λ c. is_met st a c ≡ true) (cond b (Kind.ForbidMultipleInstances x (Pos h) n ∷ filter (is_forbidding named) cs) (filter (is_forbidding named) cs))
+      by_name : (b : Bool) → (BitsMet cs → AreMet cs) → one.SatisfiesAll one.is_satisfied a ((if b then (x, h, true) ∷ [] else []) ++ flat_map (bits_of named) cs)
+          → AllByRecursion (λ c. is_satisfied st a c ≡ true) (cond b (Kind.ForbidMultipleInstances x (Pos h) n ∷ filter (is_forbidding named) cs) (filter (is_forbidding named) cs))
       by_name true later all = (met_true (a x) (a h) ∙ all.0, later all.1)
       by_name false later all = later all
   clauses_met (Kind.ForbidMultipleInstances x (Neg h) n ∷ cs) met = by_name (named n) (clauses_met cs) met
     where
-      by_name : (b : Bool) → (BitsMet cs → AreMet cs) → one.AreMet one.is_met a ((if b then (x, h, false) ∷ [] else []) ++ flat_map (bits_of named) cs)
-          → AllByRecursion (λ c. is_met st a c ≡ true) (cond b (Kind.ForbidMultipleInstances x (Neg h) n ∷ filter (is_forbidding named) cs) (filter (is_forbidding named) cs))
+      by_name : (b : Bool) → (BitsMet cs → AreMet cs) → one.SatisfiesAll one.is_satisfied a ((if b then (x, h, false) ∷ [] else []) ++ flat_map (bits_of named) cs)
+          → AllByRecursion (λ c. is_satisfied st a c ≡ true) (cond b (Kind.ForbidMultipleInstances x (Neg h) n ∷ filter (is_forbidding named) cs) (filter (is_forbidding named) cs))
       by_name true later all = (met_false (a x) (a h) ∙ all.0, later all.1)
       by_name false later all = later all
   clauses_met (_ ∷ cs) met = clauses_met cs met

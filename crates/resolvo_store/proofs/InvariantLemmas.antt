@@ -30,11 +30,11 @@ use Rattle.resolvo_queue.specs.declared.requires_clause.RequiresClause.{Requires
 use Rattle.resolvo_queue.specs.Queue.{Queue, IsNew, SameClauses, SameSync, IsUnchanged, IsRegistered, HasTrail, OnlyHotScore, StandsOn}
 use Rattle.resolvo_queue.specs.References.{References, references}
 use Rattle.resolvo_queue.proofs.Clauses.Callers.{stands_with_disjunction, stands_with_lists}
-use Rattle.resolvo_store.specs.Lists.{lists_kept, disjunctions_kept, AreAsked, IsConsistent, IsOneMore}
-use Rattle.resolvo_store.specs.Synced.{decisions_of, IsInStep, MayAsk}
+use Rattle.resolvo_store.specs.Lists.{lists_of_loaded, stored_disjunctions, AreQueried, IsConsistent, IsOneMore}
+use Rattle.resolvo_store.specs.Synced.{decisions_of, IsInStep, MayDecide}
 use Rattle.resolvo_store.proofs.SyncedLemmas.{in_step-new, in_step-pushed, in_step-same, in_step-unchanged, in_step-registered, in_step-synced, in_step-refused}
 use Rattle.resolvo_store.specs.Sound.{IsSound, IsPlain}
-use Rattle.resolvo_store.specs.Store.{Store, Provider, Kept, store_of, values, lists_of, kept_literals, clause_literals, watched_by}
+use Rattle.resolvo_store.specs.Store.{Store, Provider, StoreState, store_of, values, lists_of, stored_of, clause_literals, watched_by}
 use Rattle.at_most_once.specs.AtMostOne.{Tracker, BitClause, is_tracked}
 use Rattle.at_most_once.specs.NameTrackers.{with_tracked as trackers_with}
 use Rattle.id_maps.specs.Scores.{bumped, decayed}
@@ -43,7 +43,7 @@ use Rattle.resolvo_store.specs.Outcome.{adds_clause, with_clause, with_learnt, h
 use Rattle.resolvo_store.proofs.TrackedLaws.{IsSound-tracked}
 use Rattle.resolvo_store.proofs.AddingLemmas.{both, failed, learnt_watches}
 use Rattle.resolvo_store.proofs.ListLemmas.{items_of, lookup-none, insert-kept, few-more, length-mapped}
-use Rattle.solver_cache.specs.Cache.{Cache, is_set_asked}
+use Rattle.solver_cache.specs.Cache.{Cache, is_set_queried}
 use Rattle.solver_cache.specs.Questions.{IsLater}
 use Rattle.solver_cache.proofs.CacheLemmas.{asked_later}
 use Rattle.resolvo_store.specs.Adding.{is_direct, names_known}
@@ -99,9 +99,9 @@ plain_direct (Kind.Learnt id) direct = absurd (let no : false ≡ true = direct 
 
 -- a new queue, without clauses, may be asked
 pub new_may_ask : {N S A Q : Type 0} {has : Q → N → Bool} (queue : Queue N Q) (refs : References N S A) (trail : Trail) → IsNew has queue → ((any : References N S A) → StandsOn any queue)
-    → trail.floor ≡ 0 → MayAsk has (λ n. 0) refs (record queue { clauses = [] }) trail
+    → trail.floor ≡ 0 → MayDecide has (λ n. 0) refs (record queue { clauses = [] }) trail
 new_may_ask {has = has} queue refs trail is stands first =
-    subst (λ cs. MayAsk has (λ n. 0) refs (record queue { clauses = cs }) trail) is.clauses (record {
+    subst (λ cs. MayDecide has (λ n. 0) refs (record queue { clauses = cs }) trail) is.clauses (record {
       in_step = in_step-new {has = has} trail first is;
       stands = stands refs;
       named = is.names ∙ sym (ap (map (λ c. map refs.universe.set_name (sets_of refs.universe c.requirement))) is.clauses);
@@ -162,8 +162,8 @@ module _ {D N S A H Q : Type 0} {has : Q → N → Bool} {st : Store N S} {loade
     few = is.few;
     known = is.known;
     sound = sound;
-    asked = is.asked;
-    may_ask = record { in_step = in_step; stands = is.may_ask.stands; named = is.may_ask.named; hot = is.may_ask.hot };
+    queried = is.queried;
+    may_decide = record { in_step = in_step; stands = is.may_decide.stands; named = is.may_decide.named; hot = is.may_decide.hot };
   })
 
   -- after an assignment
@@ -174,9 +174,9 @@ module _ {D N S A H Q : Type 0} {has : Q → N → Bool} {st : Store N S} {loade
       let sound : IsSound (with_trail trail) = rw (entries, place) is.sound in
       elim (added_or_same (val st.trail e.decision.variable) trail new e answer adds) [
         | inl more ↦ after_trail (pushed trail e)
-            (rw (entries, place) (IsSound-pushed st is.sound e more.0 (record { variable = variable; clause = clause }) level)) (in_step-pushed trail e is.may_ask.in_step)
+            (rw (entries, place) (IsSound-pushed st is.sound e more.0 (record { variable = variable; clause = clause }) level)) (in_step-pushed trail e is.may_decide.in_step)
             more.1
-        | inr same ↦ after_trail trail sound is.may_ask.in_step same
+        | inr same ↦ after_trail trail sound is.may_decide.in_step same
       ]
 
   -- after variables were asked for
@@ -186,8 +186,8 @@ module _ {D N S A H Q : Type 0} {has : Q → N → Bool} {st : Store N S} {loade
   after_origins more {os} result longer ok err = record {
     few = is.few;
     known = is.known;
-    asked = is.asked;
-    may_ask = is.may_ask;
+    queried = is.queried;
+    may_decide = is.may_decide;
     sound = elim (either result ok err) [
       | inl grown ↦ subst (λ vs. IsSound (record st { origins = vs })) (sym grown) longer
       | inr same ↦ subst (λ vs. IsSound (record st { origins = vs })) (sym same) is.sound
@@ -207,8 +207,8 @@ module _ {D N S A H Q : Type 0} {has : Q → N → Bool} {st : Store N S} {loade
   after_change more {cs} result changed ok err = record {
     few = is.few;
     known = is.known;
-    asked = is.asked;
-    may_ask = is.may_ask;
+    queried = is.queried;
+    may_decide = is.may_decide;
     sound = elim (either result ok err) [
       | inl grown ↦ subst (λ ds. IsSound (with_clauses ds)) (sym grown) changed
       | inr same ↦ subst (λ ds. IsSound (with_clauses ds)) (sym same) is.sound
@@ -217,7 +217,7 @@ module _ {D N S A H Q : Type 0} {has : Q → N → Bool} {st : Store N S} {loade
 
   -- after a clause was to be added that its command names whole
   pub after_direct : {T E : Type 0} (c : Clause N) (watch : Option (List Lit)) {cs : Clauses N} (result : Result T E)
-      → is_direct c ≡ true → names_known st.provider.universe (length st.origins) c ≡ true → watch ≡ first_watches (kept_literals st) (values st) c
+      → is_direct c ≡ true → names_known st.provider.universe (length st.origins) c ≡ true → watch ≡ first_watches (stored_of st) (values st) c
       → OnOk result (cs ≡ list_added clauses_now c watch) → OnErr result (cs ≡ clauses_now) → IsConsistent has (with_clauses cs) loaded disjunctions cache queue trail
   after_direct c watch result direct known watches ok err =
       after_change (list_added clauses_now c watch) result
@@ -241,8 +241,8 @@ module _ {D N S A H Q : Type 0} {has : Q → N → Bool} {st : Store N S} {loade
   after_tracked name v {os} {cs} {ts} (Ok x) lawful named known none new origins clauses trackers same_origins same_clauses same_trackers = record {
     few = is.few;
     known = is.known;
-    asked = is.asked;
-    may_ask = is.may_ask;
+    queried = is.queried;
+    may_decide = is.may_decide;
     sound = subst (λ s. IsSound s) (sym (tracked_parts st name v origins clauses trackers)) (IsSound-tracked st is.sound lawful name v named known none new);
   }
   after_tracked name v {os} {cs} {ts} (Err e) lawful named known none new origins clauses trackers same_origins same_clauses same_trackers =
@@ -252,22 +252,22 @@ module _ {D N S A H Q : Type 0} {has : Q → N → Bool} {st : Store N S} {loade
 
   -- after a disjunction was to be kept
   pub after_disjunction : {T E : Type 0} (ls : List Lit) (condition : ℕ) {ds : List (Disjunction A)} (result : Result T E)
-      → st.disjunctions ≡ disjunctions_kept disjunctions → list_all (λ l. nat_lt (variable_of l) (length st.origins)) ls ≡ true → OnOk result (IsOneMore disjunctions ds)
-      → OnOk result (disjunctions_kept ds ≡ disjunctions_kept disjunctions ++ record { literals = ls; condition = condition } ∷ []) → OnErr result (ds ≡ disjunctions)
-      → IsConsistent has (record st { disjunctions = disjunctions_kept ds }) loaded ds cache queue trail
+      → st.disjunctions ≡ stored_disjunctions disjunctions → list_all (λ l. nat_lt (variable_of l) (length st.origins)) ls ≡ true → OnOk result (IsOneMore disjunctions ds)
+      → OnOk result (stored_disjunctions ds ≡ stored_disjunctions disjunctions ++ record { literals = ls; condition = condition } ∷ []) → OnErr result (ds ≡ disjunctions)
+      → IsConsistent has (record st { disjunctions = stored_disjunctions ds }) loaded ds cache queue trail
   after_disjunction ls condition {ds} (Err e) kept known more ok same =
-      subst (λ es. IsConsistent has (record st { disjunctions = disjunctions_kept es }) loaded es cache queue trail) (sym same) (rw (← kept) is)
+      subst (λ es. IsConsistent has (record st { disjunctions = stored_disjunctions es }) loaded es cache queue trail) (sym same) (rw (← kept) is)
   after_disjunction ls condition {ds} (Ok x) kept known more ok same = record {
     few = is.few;
     known = is.known;
-    asked = is.asked;
+    queried = is.queried;
     sound = subst (λ es. IsSound (record st { disjunctions = es })) (ap (λ es. es ++ record { literals = ls; condition = condition } ∷ []) kept ∙ sym ok)
         (IsSound-disjunction st is.sound ls condition (literals_below (length st.origins) ls known));
-    may_ask = subst (λ es. MayAsk has st.scores (references st.provider.universe loaded es) queue trail) (sym more.grown) (record {
-      in_step = is.may_ask.in_step;
-      stands = stands_with_disjunction (references st.provider.universe loaded disjunctions) queue more.disjunction is.may_ask.stands;
-      named = is.may_ask.named;
-      hot = is.may_ask.hot;
+    may_decide = subst (λ es. MayDecide has st.scores (references st.provider.universe loaded es) queue trail) (sym more.grown) (record {
+      in_step = is.may_decide.in_step;
+      stands = stands_with_disjunction (references st.provider.universe loaded disjunctions) queue more.disjunction is.may_decide.stands;
+      named = is.may_decide.named;
+      hot = is.may_decide.hot;
     });
   }
 
@@ -282,14 +282,14 @@ module _ {D N S A H Q : Type 0} {has : Q → N → Bool} {st : Store N S} {loade
 
   -- a queue that is unchanged may be asked
   abbrev MayAskStill : Queue N Q → Type 0
-  MayAskStill q = MayAsk has st.scores (references st.provider.universe loaded disjunctions) q trail
+  MayAskStill q = MayDecide has st.scores (references st.provider.universe loaded disjunctions) q trail
 
   may_ask_unchanged : {q : Queue N Q} → IsUnchanged queue q has → StandsOn seen q → MayAskStill q
   may_ask_unchanged {q} same stands = record {
-    in_step = in_step-unchanged {has = has} trail same is.may_ask.in_step;
+    in_step = in_step-unchanged {has = has} trail same is.may_decide.in_step;
     stands = stands;
-    named = same.clauses.names ∙ is.may_ask.named ∙ ap (map (λ c. map st.provider.universe.set_name (sets_of st.provider.universe c.requirement))) (sym same.clauses.clauses);
-    hot = λ n cold. is.may_ask.hot n (sym (same.hot n) ∙ cold);
+    named = same.clauses.names ∙ is.may_decide.named ∙ ap (map (λ c. map st.provider.universe.set_name (sets_of st.provider.universe c.requirement))) (sym same.clauses.clauses);
+    hot = λ n cold. is.may_decide.hot n (sym (same.hot n) ∙ cold);
   }
 
   -- after the list and the queue were left as they were
@@ -299,12 +299,12 @@ module _ {D N S A H Q : Type 0} {has : Q → N → Bool} {st : Store N S} {loade
       let requires : q.clauses ≡ st.requires = left.clauses.clauses ∙ sym registered in
       subst (λ ds. IsConsistent has (record (with_clauses ds) { requires = q.clauses }) loaded disjunctions cache q trail) (sym same)
       (subst (λ rs. IsConsistent has (record st { requires = rs }) loaded disjunctions cache q trail) (sym requires)
-      (record { few = is.few; known = is.known; sound = is.sound; asked = is.asked; may_ask = may_ask_unchanged left stands }))
+      (record { few = is.few; known = is.known; sound = is.sound; queried = is.queried; may_decide = may_ask_unchanged left stands }))
 
   -- after a requires clause was to be added and registered
   pub after_registered : {T E : Type 0} (parent : ℕ) (disjunction : Option ℕ) (r : Requirement) (c : Clause N) (watch : Option (List Lit)) {cs : Clauses N} {q : Queue N Q}
       (result : Result T E) → knows_requirement st.provider.universe r ≡ true → parent < length st.origins → IsSome (lists_of st r) → IfSome disjunction (λ d. d < length st.disjunctions)
-      → watch ≡ first_watches (kept_literals st) (values st) c → c ≡ Kind.Requires parent disjunction r → st.requires ≡ queue.clauses
+      → watch ≡ first_watches (stored_of st) (values st) c → c ≡ Kind.Requires parent disjunction r → st.requires ≡ queue.clauses
       → StandsOn seen q
       → OnOk result (cs ≡ list_added clauses_now c watch)
       → OnOk result (IsRegistered has (record { parent = parent; requirement = r; condition = disjunction; clause_id = length st.clauses })
@@ -319,17 +319,17 @@ module _ {D N S A H Q : Type 0} {has : Q → N → Bool} {st : Store N S} {loade
       let After : Clauses N → List RequiresClause → Type 0 = λ ds rs. IsConsistent has (record (with_clauses ds) { requires = rs }) loaded disjunctions cache q trail in
       subst (λ ds. After ds q.clauses) (sym added) (subst (After (list_added clauses_now c watch)) (sym grown)
       (subst (λ w. After (list_added clauses_now c w) more) (sym watches)
-      (subst (λ d. After (list_added clauses_now d (first_watches (kept_literals st) (values st) d)) more) (sym kind) (record {
+      (subst (λ d. After (list_added clauses_now d (first_watches (stored_of st) (values st) d)) more) (sym kind) (record {
         few = is.few;
         known = All-push (λ d. knows_requirement st.provider.universe d.requirement ≡ true) st.requires one is.known known;
         sound = IsSound-requires st is.sound parent disjunction r known variable found kept;
-        asked = is.asked;
-        may_ask = record {
-          in_step = in_step-registered trail one (map st.provider.universe.set_name (sets_of st.provider.universe r)) registered is.may_ask.in_step;
+        queried = is.queried;
+        may_decide = record {
+          in_step = in_step-registered trail one (map st.provider.universe.set_name (sets_of st.provider.universe r)) registered is.may_decide.in_step;
           stands = stands;
-          named = registered.names ∙ ap (λ ns. ns ++ map st.provider.universe.set_name (sets_of st.provider.universe r) ∷ []) is.may_ask.named
+          named = registered.names ∙ ap (λ ns. ns ++ map st.provider.universe.set_name (sets_of st.provider.universe r) ∷ []) is.may_decide.named
               ∙ sym (map-append (λ d. map st.provider.universe.set_name (sets_of st.provider.universe d.requirement)) queue.clauses (one ∷ [])) ∙ ap names_in (sym registered.clauses);
-          hot = λ n cold. is.may_ask.hot n (sym (registered.hot n) ∙ cold);
+          hot = λ n cold. is.may_decide.hot n (sym (registered.hot n) ∙ cold);
         };
       }))))
   after_registered parent disjunction r c watch (Err e) known variable found kept watches kind requires stands added registered unadded unregistered =
@@ -344,12 +344,12 @@ module _ {D N S A H Q : Type 0} {has : Q → N → Bool} {st : Store N S} {loade
         few = is.few;
         known = is.known;
         sound = is.sound;
-        asked = is.asked;
-        may_ask = record {
+        queried = is.queried;
+        may_decide = record {
           in_step = elim (either result ok err) [ inl synced ↦ in_step-synced trail synced | inr refused ↦ in_step-refused trail refused ];
           stands = stands;
-          named = same.names ∙ is.may_ask.named ∙ ap (map (λ c. map st.provider.universe.set_name (sets_of st.provider.universe c.requirement))) (sym same.clauses);
-          hot = λ n cold. is.may_ask.hot n (sym (hot n) ∙ cold);
+          named = same.names ∙ is.may_decide.named ∙ ap (map (λ c. map st.provider.universe.set_name (sets_of st.provider.universe c.requirement))) (sym same.clauses);
+          hot = λ n cold. is.may_decide.hot n (sym (hot n) ∙ cold);
         };
       })
 
@@ -363,18 +363,18 @@ module _ {D N S A H Q : Type 0} {has : Q → N → Bool} {st : Store N S} {loade
         few = is.few;
         known = is.known;
         sound = IsSound-scored st is.sound scores;
-        asked = is.asked;
-        may_ask = record {
-          in_step = in_step-same trail synced is.may_ask.in_step;
+        queried = is.queried;
+        may_decide = record {
+          in_step = in_step-same trail synced is.may_decide.in_step;
           stands = stands;
-          named = same.names ∙ is.may_ask.named ∙ ap (map (λ c. map st.provider.universe.set_name (sets_of st.provider.universe c.requirement))) (sym same.clauses);
+          named = same.names ∙ is.may_decide.named ∙ ap (map (λ c. map st.provider.universe.set_name (sets_of st.provider.universe c.requirement))) (sym same.clauses);
           hot = hot;
         };
       })
 
   -- only hot names have scores, also after one was marked hot, and after its score was raised then
   pub hot_kept : (q : Queue N Q) → SameValues (has queue.hot) (has q.hot) → OnlyHotScore has st.scores q
-  hot_kept q same n cold = is.may_ask.hot n (sym (same n) ∙ cold)
+  hot_kept q same n cold = is.may_decide.hot n (sym (same n) ∙ cold)
 
   pub hot_bumped : (same_name : N → N → Bool) (same : (a b : N) → same_name a b ≡ true → a ≡ b) (name : N) (amount : ℕ) (q : Queue N Q)
       → IsUpdate (has queue.hot) name true (has q.hot) → OnlyHotScore has (bumped same_name name amount st.scores) q
@@ -385,7 +385,7 @@ module _ {D N S A H Q : Type 0} {has : Q → N → Bool} {st : Store N S} {loade
 
       by_name : (b : Bool) → same_name n name ≡ b → cond b (min (st.scores n + amount) (2 ^ 64 - 1)) (st.scores n) ≡ 0
       by_name true e = absurd (other (same n name e))
-      by_name false e = is.may_ask.hot n (sym (marked.1 n other) ∙ cold)
+      by_name false e = is.may_decide.hot n (sym (marked.1 n other) ∙ cold)
 
   -- after a score was to be raised
   pub after_bumped : {T E : Type 0} (same_name : N → N → Bool) (same : (a b : N) → same_name a b ≡ true → a ≡ b) (name : N) (amount : ℕ) {scores : N → ℕ} {q : Queue N Q}
@@ -401,7 +401,7 @@ module _ {D N S A H Q : Type 0} {has : Q → N → Bool} {st : Store N S} {loade
   -- a decay leaves 0 where it is
   pub hot_decayed : (numerator denominator : ℕ) → OnlyHotScore has (decayed numerator denominator st.scores) queue
   hot_decayed numerator denominator n cold =
-      ap (λ s. s * numerator / denominator) (is.may_ask.hot n cold) ∙ ap (λ m. m / denominator) (zero-mul numerator) ∙ zero-div denominator
+      ap (λ s. s * numerator / denominator) (is.may_decide.hot n cold) ∙ ap (λ m. m / denominator) (zero-mul numerator) ∙ zero-div denominator
 
   -- after a decay
   pub after_decayed : (numerator denominator : ℕ) {scores : N → ℕ} → scores ≡ decayed numerator denominator st.scores
@@ -411,8 +411,8 @@ module _ {D N S A H Q : Type 0} {has : Q → N → Bool} {st : Store N S} {loade
         few = is.few;
         known = is.known;
         sound = IsSound-scored st is.sound (decayed numerator denominator st.scores);
-        asked = is.asked;
-        may_ask = record { in_step = is.may_ask.in_step; stands = is.may_ask.stands; named = is.may_ask.named; hot = hot_decayed numerator denominator };
+        queried = is.queried;
+        may_decide = record { in_step = is.may_decide.in_step; stands = is.may_decide.stands; named = is.may_decide.named; hot = hot_decayed numerator denominator };
       })
 
   -- after the queue was asked
@@ -420,14 +420,14 @@ module _ {D N S A H Q : Type 0} {has : Q → N → Bool} {st : Store N S} {loade
       → IsConsistent has (record st { requires = q.clauses }) loaded disjunctions cache q trail
   after_question {q} requires same stands =
       subst (λ rs. IsConsistent has (record st { requires = rs }) loaded disjunctions cache q trail) (requires ∙ sym same.clauses.clauses)
-      (record { few = is.few; known = is.known; sound = is.sound; asked = is.asked; may_ask = may_ask_unchanged same stands })
+      (record { few = is.few; known = is.known; sound = is.sound; queried = is.queried; may_decide = may_ask_unchanged same stands })
 
 -- the store of what is kept, with this provider, these variables and these lists
-abbrev pub store_with : {D N S A C : Type 0} → (D → Provider N S) → (C → N → ℕ) → Kept D N S C → D → List (VariableOrigin N S) → List (Requirement × Vec (Vec ℕ A) A) → Store N S
-store_with provided scored kept provider os loaded = store_of provided scored (record kept { provider = provider; origins = os; loaded = lists_kept loaded })
+abbrev pub store_with : {D N S A C : Type 0} → (D → Provider N S) → (C → N → ℕ) → StoreState D N S C → D → List (VariableOrigin N S) → List (Requirement × Vec (Vec ℕ A) A) → Store N S
+store_with provided scored kept provider os loaded = store_of provided scored (record kept { provider = provider; origins = os; loaded = lists_of_loaded loaded })
 
 -- after a load, of what was kept before it: the provider is the cache's
-module _ {D N S A H Q C : Type 0} (provided : D → Provider N S) (scored : C → N → ℕ) (has : H → S → Bool) (has_name : Q → N → Bool) (kept : Kept D N S C) (origins : List (VariableOrigin N S))
+module _ {D N S A H Q C : Type 0} (provided : D → Provider N S) (scored : C → N → ℕ) (has : H → S → Bool) (has_name : Q → N → Bool) (kept : StoreState D N S C) (origins : List (VariableOrigin N S))
     (loaded : List (Requirement × Vec (Vec ℕ A) A)) (disjunctions : List (Disjunction A)) (queue : Queue N Q) (trail : Trail) (old new : Cache D N S A H) (later : IsLater has old new) where
   abbrev same_solvable : S → S → Bool
   same_solvable = (provided old.provider).same_solvable
@@ -442,45 +442,45 @@ module _ {D N S A H Q C : Type 0} (provided : D → Provider N S) (scored : C �
     after_variables ss os known got = subst (λ q. IsConsistent has_name (with_all q os loaded) loaded disjunctions new queue trail) (sym later.provider) (record {
       few = is.few;
       known = is.known;
-      may_ask = is.may_ask;
+      may_decide = is.may_decide;
       sound = subst (λ vs. IsSound (with_all old.provider vs loaded)) (sym got) (IsSound-with_variables (with_all old.provider origins loaded) is.sound lawful ss known);
-      asked = λ k d lt i v below. asked_later has (provided old.provider) _ old new later (is.asked k d lt i v below);
+      queried = λ k d lt i v below. asked_later has (provided old.provider) _ old new later (is.queried k d lt i v below);
     })
 
     -- after the candidates of a requirement got variables, and these were kept
     pub after_load : (r : Requirement) (best : VersionSetId → List S) (os : List (VariableOrigin N S)) (lists : Vec (Vec ℕ A) A) (kept_lists : List (Requirement × Vec (Vec ℕ A) A))
         → All (IsKnownSolvable (provided old.provider).universe) (flat_map best (sets_of (provided old.provider).universe r))
-        → lookup (same_requirement r) (lists_kept loaded) ≡ None
+        → lookup (same_requirement r) (lists_of_loaded loaded) ≡ None
         → os ≡ with_variables same_solvable origins (flat_map best (sets_of (provided old.provider).universe r))
         → map (λ l. l.items) lists.items ≡ map (λ v. map (interned_variable same_solvable os) (best v)) (sets_of (provided old.provider).universe r)
         → length (flat_map best (sets_of (provided old.provider).universe r)) < 2 ^ 40
-        → All (λ v. is_set_asked (provided old.provider) new v ≡ true) (sets_of (provided old.provider).universe r)
+        → All (λ v. is_set_queried (provided old.provider) new v ≡ true) (sets_of (provided old.provider).universe r)
         → kept_lists ≡ with_entry loaded r lists
         → IsConsistent has_name (with_all new.provider os kept_lists) kept_lists disjunctions new queue trail
     after_load r best os lists kept_lists solvables fresh got made few asked keeps =
         let sets = sets_of (provided old.provider).universe r in
         let st = with_all old.provider origins loaded in
         let own : List (VariableOrigin N S) → List (List ℕ) = λ vs. map (λ v. map (interned_variable same_solvable vs) (best v)) sets in
-        let entry : lists_kept (with_entry loaded r lists) ≡ lists_kept loaded ++ (r, own os) ∷ [] =
-        insert-kept loaded r lists fresh ∙ ap (λ ls. lists_kept loaded ++ (r, ls) ∷ []) made in
+        let entry : lists_of_loaded (with_entry loaded r lists) ≡ lists_of_loaded loaded ++ (r, own os) ∷ [] =
+        insert-kept loaded r lists fresh ∙ ap (λ ls. lists_of_loaded loaded ++ (r, ls) ∷ []) made in
         let rows : length (flat_map (λ l. l) (items_of lists)) ≡ length (flat_map best sets) =
         ap (λ ls. length (flat_map (λ l. l) ls)) made ∙ ap length (flat_map-map (λ l. l) (λ v. map (interned_variable same_solvable os) (best v)) sets)
         ∙ length-mapped best (interned_variable same_solvable os) sets in
-        let sound : IsSound (record st { origins = os; loaded = lists_kept loaded ++ (r, own os) ∷ [] }) =
-        subst (λ vs. IsSound (record st { origins = vs; loaded = lists_kept loaded ++ (r, own vs) ∷ [] })) (sym got)
+        let sound : IsSound (record st { origins = os; loaded = lists_of_loaded loaded ++ (r, own os) ∷ [] }) =
+        subst (λ vs. IsSound (record st { origins = vs; loaded = lists_of_loaded loaded ++ (r, own vs) ∷ [] })) (sym got)
         (IsSound-interned st is.sound lawful r best sets solvables fresh refl) in
         subst (λ ks. IsConsistent has_name (with_all new.provider os ks) ks disjunctions new queue trail) (sym keeps)
         (subst (λ q. IsConsistent has_name (with_all q os (with_entry loaded r lists)) (with_entry loaded r lists) disjunctions new queue trail) (sym later.provider) (record {
           few = few-more loaded r lists is.few (rw rows few);
           known = is.known;
-          may_ask = record {
-            in_step = is.may_ask.in_step;
-            stands = stands_with_lists (references (provided old.provider).universe loaded disjunctions) queue r lists (lookup-none loaded r fresh) is.may_ask.stands;
-            named = is.may_ask.named;
-            hot = is.may_ask.hot;
+          may_decide = record {
+            in_step = is.may_decide.in_step;
+            stands = stands_with_lists (references (provided old.provider).universe loaded disjunctions) queue r lists (lookup-none loaded r fresh) is.may_decide.stands;
+            named = is.may_decide.named;
+            hot = is.may_decide.hot;
           };
           sound = subst (λ ls. IsSound (record st { origins = os; loaded = ls })) (sym entry) sound;
-          asked = subst (AreAsked (provided old.provider) new) (sym entry)
-              (All-push (λ e. All (λ v. is_set_asked (provided old.provider) new v ≡ true) (sets_of (provided old.provider).universe e.0)) (lists_kept loaded) (r, own os)
-              (λ k d lt i v below. asked_later has (provided old.provider) _ old new later (is.asked k d lt i v below)) asked);
+          queried = subst (AreQueried (provided old.provider) new) (sym entry)
+              (All-push (λ e. All (λ v. is_set_queried (provided old.provider) new v ≡ true) (sets_of (provided old.provider).universe e.0)) (lists_of_loaded loaded) (r, own os)
+              (λ k d lt i v below. asked_later has (provided old.provider) _ old new later (is.queried k d lt i v below)) asked);
         }))

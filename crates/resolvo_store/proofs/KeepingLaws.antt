@@ -23,7 +23,7 @@ use Rattle.resolvo_store.specs.Store.{Store, Provider, lists_of, all_candidates}
 use Rattle.resolvo_store.specs.Tracking.{forbidding, origins_with}
 use Rattle.resolvo_store.specs.Outcome.{Outcome, outcome, load, hands_next, variables_loaded, adds_clause, helper_for, helper_origin, tracking, with_bits, with_tracked, with_learnt, with_registered, with_disjunction}
 use Rattle.resolvo_store.specs.Step.{Step, Run}
-use Rattle.resolvo_store.specs.Keeping.{Keeps}
+use Rattle.resolvo_store.specs.Growth.{OnlyGrows}
 use Rattle.resolvo_store.proofs.KnownLemmas.{IsLawful}
 use Rattle.resolvo_store.proofs.SoundSteps.{step_store, step_saturated}
 
@@ -100,7 +100,7 @@ module _ {N S : Type 0} where
   -- a store whose lists begin with those of another, and that tracks the same
   keeps_lists : (st new : Store N S) → new.provider ≡ st.provider → new.trackers ≡ st.trackers
       → BeginsWith st.origins new.origins → BeginsWith st.loaded new.loaded → BeginsWith st.disjunctions new.disjunctions
-      → BeginsWith st.learnt new.learnt → BeginsWith st.clauses new.clauses → BeginsWith st.requires new.requires → Keeps st new
+      → BeginsWith st.learnt new.learnt → BeginsWith st.clauses new.clauses → BeginsWith st.requires new.requires → OnlyGrows st new
   keeps_lists st new provider trackers origins loaded disjunctions learnt clauses requires = record {
     provider = provider;
     origins = origins;
@@ -113,13 +113,13 @@ module _ {N S : Type 0} where
     helpers = λ name. subst (λ (t : N → Tracker ℕ). BeginsWith (st.trackers name).helpers (t name).helpers) (sym trackers) (begins_same (st.trackers name).helpers);
   }
 
-  pub Keeps-same : (st : Store N S) → Keeps st st
-  Keeps-same st =
+  pub OnlyGrows-same : (st : Store N S) → OnlyGrows st st
+  OnlyGrows-same st =
       keeps_lists st st refl refl (begins_same st.origins) (begins_same st.loaded) (begins_same st.disjunctions) (begins_same st.learnt) (begins_same st.clauses)
       (begins_same st.requires)
 
-  pub Keeps-trans : {old mid new : Store N S} → Keeps old mid → Keeps mid new → Keeps old new
-  Keeps-trans first second = record {
+  pub OnlyGrows-trans : {old mid new : Store N S} → OnlyGrows old mid → OnlyGrows mid new → OnlyGrows old new
+  OnlyGrows-trans first second = record {
     provider = second.provider ∙ first.provider;
     origins = begins_trans _ _ _ first.origins second.origins;
     loaded = begins_trans _ _ _ first.loaded second.loaded;
@@ -154,45 +154,45 @@ module _ {N S : Type 0} where
 
     -- with another trail, other watches or other scores
     keeps_else : (trail : List Entry) (place : ℕ) (scores : N → ℕ) (watches : List (List Lit)) (watchers : Lit → List ℕ)
-        → Keeps st (record st { trail = trail; place = place; scores = scores; watches = watches; watchers = watchers })
+        → OnlyGrows st (record st { trail = trail; place = place; scores = scores; watches = watches; watchers = watchers })
     keeps_else trail place scores watches watchers = keeps_lists st _ refl refl same_origins same_loaded same_disjunctions same_learnt same_clauses same_requires
 
-    keeps_origins : (more : List (VariableOrigin N S)) → BeginsWith st.origins more → Keeps st (record st { origins = more })
+    keeps_origins : (more : List (VariableOrigin N S)) → BeginsWith st.origins more → OnlyGrows st (record st { origins = more })
     keeps_origins more begins = keeps_lists st _ refl refl begins same_loaded same_disjunctions same_learnt same_clauses same_requires
 
-    keeps_added : (c : Clause N) → Keeps st (adds_clause st c).store
+    keeps_added : (c : Clause N) → OnlyGrows st (adds_clause st c).store
     keeps_added c = keeps_lists st _ refl refl same_origins same_loaded same_disjunctions same_learnt (begins_more st.clauses c) same_requires
 
-    keeps_registered : (parent : ℕ) (r : Requirement) (condition : Option ℕ) → Keeps st (with_registered st parent r condition)
+    keeps_registered : (parent : ℕ) (r : Requirement) (condition : Option ℕ) → OnlyGrows st (with_registered st parent r condition)
     keeps_registered parent r condition =
         keeps_lists st (with_registered st parent r condition) refl refl same_origins same_loaded same_disjunctions same_learnt same_clauses
         (begins_more st.requires (record { parent = parent; requirement = r; condition = condition; clause_id = length st.clauses }))
 
-    keeps_learnt : (literals : List Lit) → Keeps st (with_learnt st literals)
+    keeps_learnt : (literals : List Lit) → OnlyGrows st (with_learnt st literals)
     keeps_learnt literals = keeps_lists st (with_learnt st literals) refl refl same_origins same_loaded same_disjunctions (begins_more st.learnt literals) same_clauses same_requires
 
-    keeps_disjunction : (literals : List Lit) (condition : ℕ) → Keeps st (with_disjunction st literals condition)
+    keeps_disjunction : (literals : List Lit) (condition : ℕ) → OnlyGrows st (with_disjunction st literals condition)
     keeps_disjunction literals condition =
         keeps_lists st (with_disjunction st literals condition) refl refl same_origins same_loaded (begins_more st.disjunctions (record { literals = literals; condition = condition })) same_learnt same_clauses same_requires
 
-    pub keeps_load : (r : Requirement) (o : Option (List (List ℕ))) → Keeps st (load st r o).store
-    keeps_load r (Some lists) = Keeps-same st
+    pub keeps_load : (r : Requirement) (o : Option (List (List ℕ))) → OnlyGrows st (load st r o).store
+    keeps_load r (Some lists) = OnlyGrows-same st
     keeps_load r None =
         keeps_lists st (load st r None).store refl refl (begins_variables st.provider.same_solvable st.origins (all_candidates st r))
         (begins_more st.loaded (r, variables_loaded st r)) same_disjunctions same_learnt same_clauses same_requires
 
-    keeps_next : (o : Option Entry) → Keeps st (hands_next st o).store
-    keeps_next None = Keeps-same st
+    keeps_next : (o : Option Entry) → OnlyGrows st (hands_next st o).store
+    keeps_next None = OnlyGrows-same st
     keeps_next (Some e) = keeps_else st.trail (st.place + 1) st.scores st.watches st.watchers
 
-  keeps_bits : (name : N) (st : Store N S) (cs : List (BitClause ℕ)) → Keeps st (with_bits name st cs)
-  keeps_bits name st [] = Keeps-same st
-  keeps_bits name st (c ∷ cs) = Keeps-trans (keeps_added st (forbidding name c)) (keeps_bits name (adds_clause st (forbidding name c)).store cs)
+  keeps_bits : (name : N) (st : Store N S) (cs : List (BitClause ℕ)) → OnlyGrows st (with_bits name st cs)
+  keeps_bits name st [] = OnlyGrows-same st
+  keeps_bits name st (c ∷ cs) = OnlyGrows-trans (keeps_added st (forbidding name c)) (keeps_bits name (adds_clause st (forbidding name c)).store cs)
 
   module _ (st : Store N S) (lawful : IsLawful st.provider) where
     -- with one variable more under a name, and its helper
     keeps_trackers : (name : N) (v : ℕ) (h : Option ℕ)
-        → Keeps st (record st { origins = origins_with st.origins name h; trackers = trackers_with st.provider.same_name name v h st.trackers })
+        → OnlyGrows st (record st { origins = origins_with st.origins name h; trackers = trackers_with st.provider.same_name name v h st.trackers })
     keeps_trackers name v h = record {
       provider = refl;
       origins = begins_origins st.origins name h;
@@ -216,73 +216,73 @@ module _ {N S : Type 0} where
             by_name false e = other
 
     keeps_tracking : (name : N) (v : ℕ) (b : Bool)
-        → Keeps st (cond {A = Outcome N S} b (record { reply = TrackedAs false 0; store = st }) (record { reply = TrackedAs true (length (tracking st name v)); store = with_tracked st name v })).store
-    keeps_tracking name v true = Keeps-same st
-    keeps_tracking name v false = Keeps-trans (keeps_trackers name v (helper_for st name v)) (keeps_bits name _ (tracking st name v))
+        → OnlyGrows st (cond {A = Outcome N S} b (record { reply = TrackedAs false 0; store = st }) (record { reply = TrackedAs true (length (tracking st name v)); store = with_tracked st name v })).store
+    keeps_tracking name v true = OnlyGrows-same st
+    keeps_tracking name v false = OnlyGrows-trans (keeps_trackers name v (helper_for st name v)) (keeps_bits name _ (tracking st name v))
 
     -- what a command does that nothing refuses
-    pub Keeps-outcome : (c : Command N S) → Keeps st (outcome st c).store
-    Keeps-outcome (Variable s) = keeps_origins st _ (begins_variables st.provider.same_solvable st.origins (s ∷ []))
-    Keeps-outcome (Helper origin) = keeps_origins st _ (begins_more st.origins (helper_origin origin))
-    Keeps-outcome (Load r) = keeps_load st r (lists_of st r)
-    Keeps-outcome (Requires parent r disjunction) =
-        Keeps-trans (keeps_registered st parent r disjunction) (keeps_added (with_registered st parent r disjunction) (Kind.Requires parent disjunction r))
-    Keeps-outcome Root = keeps_added st Kind.InstallRoot
-    Keeps-outcome (Constrains parent forbidden v) = keeps_added st (Kind.Constrains parent forbidden v)
-    Keeps-outcome (ConstrainsExcluded candidate aux v) = keeps_added st (Kind.ConstrainsExcluded candidate aux v)
-    Keeps-outcome (ConstrainsParent parent aux v) = keeps_added st (Kind.ConstrainsParent parent aux v)
-    Keeps-outcome (Lock locked other) = keeps_added st (Kind.Lock locked other)
-    Keeps-outcome (Exclude v reason) = keeps_added st (Kind.Excluded v reason)
-    Keeps-outcome (AnyOf selected other) = keeps_added st (Kind.AnyOf selected other)
-    Keeps-outcome (Learnt ls) = Keeps-trans (keeps_learnt st ls) (keeps_added (with_learnt st ls) (Kind.Learnt (length st.learnt)))
-    Keeps-outcome (Assign v value clause level) = keeps_else st _ st.place st.scores st.watches st.watchers
-    Keeps-outcome UndoLast = keeps_else st _ _ st.scores st.watches st.watchers
-    Keeps-outcome (UndoUntil level) = keeps_else st _ _ st.scores st.watches st.watchers
-    Keeps-outcome Unpropagated = keeps_next st (slice_get st.trail st.place)
-    Keeps-outcome (Rewatch c from to) = keeps_else st st.trail st.place st.scores _ _
-    Keeps-outcome (Watchers l) = Keeps-same st
-    Keeps-outcome (Saturate level) = Keeps-same st
-    Keeps-outcome Decide = Keeps-same st
-    Keeps-outcome (Disjunction ls condition) = keeps_disjunction st ls condition
-    Keeps-outcome (AtMostOnce name v) = keeps_tracking name v (is_tracked nat_eq (st.trackers name) v)
-    Keeps-outcome (Bump name amount) = keeps_else st st.trail st.place _ st.watches st.watchers
-    Keeps-outcome (Decay numerator denominator) = keeps_else st st.trail st.place _ st.watches st.watchers
-    Keeps-outcome (Standard standard) = Keeps-same st
+    pub OnlyGrows-outcome : (c : Command N S) → OnlyGrows st (outcome st c).store
+    OnlyGrows-outcome (Variable s) = keeps_origins st _ (begins_variables st.provider.same_solvable st.origins (s ∷ []))
+    OnlyGrows-outcome (Helper origin) = keeps_origins st _ (begins_more st.origins (helper_origin origin))
+    OnlyGrows-outcome (Load r) = keeps_load st r (lists_of st r)
+    OnlyGrows-outcome (Requires parent r disjunction) =
+        OnlyGrows-trans (keeps_registered st parent r disjunction) (keeps_added (with_registered st parent r disjunction) (Kind.Requires parent disjunction r))
+    OnlyGrows-outcome Root = keeps_added st Kind.InstallRoot
+    OnlyGrows-outcome (Constrains parent forbidden v) = keeps_added st (Kind.Constrains parent forbidden v)
+    OnlyGrows-outcome (ConstrainsExcluded candidate aux v) = keeps_added st (Kind.ConstrainsExcluded candidate aux v)
+    OnlyGrows-outcome (ConstrainsParent parent aux v) = keeps_added st (Kind.ConstrainsParent parent aux v)
+    OnlyGrows-outcome (Lock locked other) = keeps_added st (Kind.Lock locked other)
+    OnlyGrows-outcome (Exclude v reason) = keeps_added st (Kind.Excluded v reason)
+    OnlyGrows-outcome (AnyOf selected other) = keeps_added st (Kind.AnyOf selected other)
+    OnlyGrows-outcome (Learnt ls) = OnlyGrows-trans (keeps_learnt st ls) (keeps_added (with_learnt st ls) (Kind.Learnt (length st.learnt)))
+    OnlyGrows-outcome (Assign v value clause level) = keeps_else st _ st.place st.scores st.watches st.watchers
+    OnlyGrows-outcome UndoLast = keeps_else st _ _ st.scores st.watches st.watchers
+    OnlyGrows-outcome (UndoUntil level) = keeps_else st _ _ st.scores st.watches st.watchers
+    OnlyGrows-outcome Unpropagated = keeps_next st (slice_get st.trail st.place)
+    OnlyGrows-outcome (Rewatch c from to) = keeps_else st st.trail st.place st.scores _ _
+    OnlyGrows-outcome (Watchers l) = OnlyGrows-same st
+    OnlyGrows-outcome (Saturate level) = OnlyGrows-same st
+    OnlyGrows-outcome Decide = OnlyGrows-same st
+    OnlyGrows-outcome (Disjunction ls condition) = keeps_disjunction st ls condition
+    OnlyGrows-outcome (AtMostOnce name v) = keeps_tracking name v (is_tracked nat_eq (st.trackers name) v)
+    OnlyGrows-outcome (Bump name amount) = keeps_else st st.trail st.place _ st.watches st.watchers
+    OnlyGrows-outcome (Decay numerator denominator) = keeps_else st st.trail st.place _ st.watches st.watchers
+    OnlyGrows-outcome (Standard standard) = OnlyGrows-same st
 
   -- ---- steps and runs
 
   -- whatever a command is answered, the store keeps what it has
-  pub Keeps-step : (old new : Store N S) (c : Command N S) (reply : Reply) → IsLawful old.provider → Step old c reply new → Keeps old new
-  Keeps-step old new c reply lawful step = by_command c step
+  pub OnlyGrows-step : (old new : Store N S) (c : Command N S) (reply : Reply) → IsLawful old.provider → Step old c reply new → OnlyGrows old new
+  OnlyGrows-step old new c reply lawful step = by_command c step
     where
-      same : new ≡ old → Keeps old new
-      same e = subst (λ (st : Store N S). Keeps old st) (sym e) (Keeps-same old)
+      same : new ≡ old → OnlyGrows old new
+      same e = subst (λ (st : Store N S). OnlyGrows old st) (sym e) (OnlyGrows-same old)
 
-      plainly : (d : Command N S) → is_saturate d ≡ false → Step old d reply new → Keeps old new
+      plainly : (d : Command N S) → is_saturate d ≡ false → Step old d reply new → OnlyGrows old new
       plainly d plain s = elim (step_store old new d reply plain s) [
         | inl left ↦ same left
-        | inr done ↦ subst (λ (st : Store N S). Keeps old st) (sym done.1) (Keeps-outcome old lawful d)
+        | inr done ↦ subst (λ (st : Store N S). OnlyGrows old st) (sym done.1) (OnlyGrows-outcome old lawful d)
       ]
 
-      by_command : (d : Command N S) → Step old d reply new → Keeps old new
+      by_command : (d : Command N S) → Step old d reply new → OnlyGrows old new
       by_command (Saturate level) s = elim (step_saturated old new level reply s) [
         | inl left ↦ same left
-        | inr done ↦ subst (λ (st : Store N S). Keeps old st) (sym done.1.rest) (keeps_else old (old.trail ++ done.1.added) old.place old.scores done.1.watches done.1.watchers)
+        | inr done ↦ subst (λ (st : Store N S). OnlyGrows old st) (sym done.1.rest) (keeps_else old (old.trail ++ done.1.added) old.place old.scores done.1.watches done.1.watchers)
       ]
       by_command d s = plainly d refl s
 
   -- so it does whatever commands are answered in turn
-  pub Keeps-run : (old new : Store N S) (cs : List (Command N S)) (replies : List Reply) → IsLawful old.provider → Run old cs replies new → Keeps old new
-  Keeps-run old new [] [] lawful ran = subst (λ (st : Store N S). Keeps old st) (sym ran) (Keeps-same old)
-  Keeps-run old new (c ∷ cs) (reply ∷ replies) lawful ran =
-      let first = Keeps-step old ran.0 c reply lawful ran.1 in
-      Keeps-trans first (Keeps-run ran.0 new cs replies (subst (λ (p : Provider N S). IsLawful p) (sym first.provider) lawful) ran.2)
-  Keeps-run old new [] (reply ∷ replies) lawful ran = absurd ran
-  Keeps-run old new (c ∷ cs) [] lawful ran = absurd ran
+  pub OnlyGrows-run : (old new : Store N S) (cs : List (Command N S)) (replies : List Reply) → IsLawful old.provider → Run old cs replies new → OnlyGrows old new
+  OnlyGrows-run old new [] [] lawful ran = subst (λ (st : Store N S). OnlyGrows old st) (sym ran) (OnlyGrows-same old)
+  OnlyGrows-run old new (c ∷ cs) (reply ∷ replies) lawful ran =
+      let first = OnlyGrows-step old ran.0 c reply lawful ran.1 in
+      OnlyGrows-trans first (OnlyGrows-run ran.0 new cs replies (subst (λ (p : Provider N S). IsLawful p) (sym first.provider) lawful) ran.2)
+  OnlyGrows-run old new [] (reply ∷ replies) lawful ran = absurd ran
+  OnlyGrows-run old new (c ∷ cs) [] lawful ran = absurd ran
 
   -- ---- what follows of what is kept
 
-  module _ {old new : Store N S} (kept : Keeps old new) where
+  module _ {old new : Store N S} (kept : OnlyGrows old new) where
     -- a clause is there under its id
     pub clause_stays : (clause : ℕ) (c : Clause N) → slice_get old.clauses clause ≡ Some c → slice_get new.clauses clause ≡ Some c
     clause_stays = begins_get old.clauses new.clauses kept.clauses

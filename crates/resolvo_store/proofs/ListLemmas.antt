@@ -14,10 +14,10 @@ use Rattle.providers.specs.declared.requirement.Requirement.{Requirement}
 use Rattle.providers.specs.Requirement.{same_requirement}
 use Rattle.providers.specs.Provider.{Universe, sets_of}
 use Rattle.decisions.specs.Literals.{Lit}
-use Rattle.clauses.specs.Stored.{kept_in, lists_found}
+use Rattle.clauses.specs.Stored.{stored_in, lists_found}
 use Rattle.clauses.specs.declared.disjunction.Disjunction.{Disjunction}
 use Rattle.resolvo_queue.specs.Rows.{Row, rows, lists_or_none, loaded_rows, AreFew}
-use Rattle.resolvo_store.specs.Lists.{lists_kept, disjunctions_kept}
+use Rattle.resolvo_store.specs.Lists.{lists_of_loaded, stored_disjunctions}
 pub use Rattle.resolvo_store.specs.Lists.{items_of}
 
 -- lists have few rows in all
@@ -27,11 +27,11 @@ HasFew lists = length (flat_map (λ list. list) lists) < 2 ^ 40
 module _ {A : Type 0} where
   -- a requirement's lists, looked up in what is kept
   pub lookup-kept : (loaded : List (Requirement × Vec (Vec ℕ A) A)) (r : Requirement)
-      → lookup (same_requirement r) (lists_kept loaded) ≡ option_map items_of (lookup (same_requirement r) loaded)
+      → lookup (same_requirement r) (lists_of_loaded loaded) ≡ option_map items_of (lookup (same_requirement r) loaded)
   lookup-kept loaded r = lookup-map_values items_of (same_requirement r) loaded
 
   -- what isn't kept for the abstract store isn't kept
-  pub lookup-none : (loaded : List (Requirement × Vec (Vec ℕ A) A)) (r : Requirement) → lookup (same_requirement r) (lists_kept loaded) ≡ None → lookup (same_requirement r) loaded ≡ None
+  pub lookup-none : (loaded : List (Requirement × Vec (Vec ℕ A) A)) (r : Requirement) → lookup (same_requirement r) (lists_of_loaded loaded) ≡ None → lookup (same_requirement r) loaded ≡ None
   lookup-none loaded r none = by_found (lookup (same_requirement r) loaded) (sym (lookup-kept loaded r) ∙ none)
     where
       by_found : (o : Option (Vec (Vec ℕ A) A)) → option_map items_of o ≡ None → o ≡ None
@@ -39,7 +39,7 @@ module _ {A : Type 0} where
       by_found (Some lists) h = (let no : ⊥ = cc in absurd no)
 
   -- what is kept for it is kept
-  pub lookup-some : (loaded : List (Requirement × Vec (Vec ℕ A) A)) (r : Requirement) → is_some (lookup (same_requirement r) (lists_kept loaded)) ≡ true → is_some (lookup (same_requirement r) loaded) ≡ true
+  pub lookup-some : (loaded : List (Requirement × Vec (Vec ℕ A) A)) (r : Requirement) → is_some (lookup (same_requirement r) (lists_of_loaded loaded)) ≡ true → is_some (lookup (same_requirement r) loaded) ≡ true
   lookup-some loaded r some = by_found (lookup (same_requirement r) loaded) (ap is_some (sym (lookup-kept loaded r)) ∙ some)
     where
       by_found : (o : Option (Vec (Vec ℕ A) A)) → is_some (option_map items_of o) ≡ true → is_some o ≡ true
@@ -57,26 +57,26 @@ module _ {A : Type 0} where
   -- the rows of each requirement are those of the abstract store
   pub rows-kept : {N S : Type 0} (universe : Universe N S) (loaded : List (Requirement × Vec (Vec ℕ A) A))
       → ◌≡◌ {A = Requirement → List Row} (loaded_rows universe loaded)
-      (λ r. rows (sets_of universe r) (unwrap_or (lookup (same_requirement r) (lists_kept loaded)) []))
+      (λ r. rows (sets_of universe r) (unwrap_or (lookup (same_requirement r) (lists_of_loaded loaded)) []))
   rows-kept universe loaded = fun_ext (λ r. ap (rows (sets_of universe r)) (none_or_items (lookup (same_requirement r) loaded) ∙ ap (λ o. unwrap_or o []) (sym (lookup-kept loaded r))))
 
   -- as many disjunctions are kept as there are
-  pub length_disjunctions : (ds : List (Disjunction A)) → length (disjunctions_kept ds) ≡ length ds
+  pub length_disjunctions : (ds : List (Disjunction A)) → length (stored_disjunctions ds) ≡ length ds
   length_disjunctions ds = length-map ds (λ d. record { literals = d.literals.items; condition = d.condition })
 
   -- the literals of disjunctions are those of the abstract store
-  pub disjunctions-kept : (ds : List (Disjunction A)) → map (λ d. d.literals.items) ds ≡ map (λ d. d.literals) (disjunctions_kept ds)
+  pub disjunctions-kept : (ds : List (Disjunction A)) → map (λ d. d.literals.items) ds ≡ map (λ d. d.literals) (stored_disjunctions ds)
   disjunctions-kept [] = refl
   disjunctions-kept (d ∷ ds) = ap (λ ls. d.literals.items ∷ ls) (disjunctions-kept ds)
 
   -- what clauses refer to by ids is that of the abstract store
   pub literals-kept : (learnt : List (Vec Lit A)) (own : List (List Lit)) (loaded : List (Requirement × Vec (Vec ℕ A) A)) (disjunctions : List (Disjunction A))
       → map (λ l. l.items) learnt ≡ own
-      → kept_in learnt loaded disjunctions ≡ record { learnt = own; lists = λ r. unwrap_or (lookup (same_requirement r) (lists_kept loaded)) []; disjunctions = map (λ d. d.literals) (disjunctions_kept disjunctions) }
+      → stored_in learnt loaded disjunctions ≡ record { learnt = own; lists = λ r. unwrap_or (lookup (same_requirement r) (lists_of_loaded loaded)) []; disjunctions = map (λ d. d.literals) (stored_disjunctions disjunctions) }
   literals-kept learnt own loaded disjunctions same =
       ap (λ ls. record { learnt = ls; lists = λ r. lists_found (lookup (same_requirement r) loaded); disjunctions = map (λ d. d.literals.items) disjunctions }) same
       ∙ ap (λ ds. record { learnt = own; lists = λ r. lists_found (lookup (same_requirement r) loaded); disjunctions = ds }) (disjunctions-kept disjunctions)
-      ∙ ap (λ lists. record { learnt = own; lists = lists; disjunctions = map (λ d. d.literals) (disjunctions_kept disjunctions) })
+      ∙ ap (λ lists. record { learnt = own; lists = lists; disjunctions = map (λ d. d.literals) (stored_disjunctions disjunctions) })
       (fun_ext (λ r. found_or_none (lookup (same_requirement r) loaded) ∙ ap (λ o. unwrap_or o []) (sym (lookup-kept loaded r))))
 
   -- what was found of the lists
@@ -94,12 +94,12 @@ module _ {A : Type 0} where
       ap (λ l. l ∷ map (λ l. l.items) clone) (each_same v.items w.items same.0.0) ∙ ap (λ ls. v.items ∷ ls) (items-cloned lists clone same.1)
 
   -- what is kept once a requirement that had nothing is given its lists
-  pub insert-kept : (loaded : List (Requirement × Vec (Vec ℕ A) A)) (r : Requirement) (lists : Vec (Vec ℕ A) A) → lookup (same_requirement r) (lists_kept loaded) ≡ None
-      → lists_kept (with_entry loaded r lists) ≡ lists_kept loaded ++ (r, items_of lists) ∷ []
+  pub insert-kept : (loaded : List (Requirement × Vec (Vec ℕ A) A)) (r : Requirement) (lists : Vec (Vec ℕ A) A) → lookup (same_requirement r) (lists_of_loaded loaded) ≡ None
+      → lists_of_loaded (with_entry loaded r lists) ≡ lists_of_loaded loaded ++ (r, items_of lists) ∷ []
   insert-kept [] r lists new = refl
   insert-kept (e ∷ es) r lists new =
-      (elim (same_requirement r e.0) as (λ b. cond b (Some (items_of e.1)) (lookup (same_requirement r) (lists_kept es)) ≡ None
-      → lists_kept (cond b ((e.0, lists) ∷ es) (e ∷ with_entry es r lists)) ≡ lists_kept (e ∷ es) ++ (r, items_of lists) ∷ [])
+      (elim (same_requirement r e.0) as (λ b. cond b (Some (items_of e.1)) (lookup (same_requirement r) (lists_of_loaded es)) ≡ None
+      → lists_of_loaded (cond b ((e.0, lists) ∷ es) (e ∷ with_entry es r lists)) ≡ lists_of_loaded (e ∷ es) ++ (r, items_of lists) ∷ [])
       [ true ↦ λ h. (let no : ⊥ = cc in absurd no) | false ↦ λ h. ap (λ l. (e.0, items_of e.1) ∷ l) (insert-kept es r lists h) ]) new
 
   -- ---- few rows

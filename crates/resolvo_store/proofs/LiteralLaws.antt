@@ -14,7 +14,7 @@ use Rattle.clauses.specs.Clauses.{literals_of, condition_literals, same_literal}
 use Rattle.clauses.specs.ClauseTexts.{IsKnown, IsKnownClause}
 use Rattle.watch_map.specs.Watching.{is_literal_in}
 use Rattle.watch_map.proofs.WatchingLaws.{same_is}
-use Rattle.resolvo_store.specs.Store.{Store, KeptDisjunction, lists_of, kept_literals, clause_literals}
+use Rattle.resolvo_store.specs.Store.{Store, StoredDisjunction, lists_of, stored_of, clause_literals}
 use Rattle.resolvo_store.specs.Sound.{IsSound, IsLoaded, IsVariable, AreLiterals}
 use Rattle.resolvo_store.proofs.KnownLemmas.{known_within}
 
@@ -63,7 +63,7 @@ module _ (n : ℕ) where
 pub clause_there : {N S : Type 0} (st : Store N S) (c : ℕ) (l : Lit) → is_literal_in l (clause_literals st c) ≡ true → c < length st.clauses
 clause_there {N = N} st c l h = go st.clauses c h
   where
-    go : (cs : List (Clause N)) (i : ℕ) → is_literal_in l (unwrap_or (option_map (literals_of (kept_literals st)) (slice_get cs i)) []) ≡ true → i < length cs
+    go : (cs : List (Clause N)) (i : ℕ) → is_literal_in l (unwrap_or (option_map (literals_of (stored_of st)) (slice_get cs i)) []) ≡ true → i < length cs
     go [] i k = (let no : false ≡ true = k in cc)
     go (d ∷ cs) zero k = omega arith
     go (d ∷ cs) (suc i) k = omega (arith, go cs i k)
@@ -85,21 +85,21 @@ module _ {N S : Type 0} (st : Store N S) (sound : IsSound st) where
   two : (l m : Lit) → Known l → Known m → All Known (l ∷ m ∷ [])
   two l m a b = All-cons Known l (m ∷ []) a (one m b)
 
-  condition_known : (d : Option ℕ) → All Known (condition_literals (kept_literals st) d)
+  condition_known : (d : Option ℕ) → All Known (condition_literals (stored_of st) d)
   condition_known None = All-nil Known
   condition_known (Some d) =
-      all_at Known (map (λ (x : KeptDisjunction). x.literals) st.disjunctions) d (All-map (AreLiterals st) (λ (x : KeptDisjunction). x.literals) st.disjunctions sound.disjunctions_known)
+      all_at Known (map (λ (x : StoredDisjunction). x.literals) st.disjunctions) d (All-map (AreLiterals st) (λ (x : StoredDisjunction). x.literals) st.disjunctions sound.disjunctions_known)
 
   candidates_known : (r : Requirement) → All Known (flat_map (map Pos) (unwrap_or (lists_of st r) []))
   candidates_known r =
       candidates_below (length st.origins) (unwrap_or (lists_of st r) [])
       (found_below (length st.origins) r st.loaded (All-weaker (IsLoaded st) (λ e. All (All (IsVariable st)) e.1) (λ e k. k.variables) st.loaded sound.loaded))
 
-  of_clause : (c : Clause N) → IsKnownClause st.provider.universe st.origins c → All Known (literals_of (kept_literals st) c)
+  of_clause : (c : Clause N) → IsKnownClause st.provider.universe st.origins c → All Known (literals_of (stored_of st) c)
   of_clause Kind.InstallRoot k = one (Pos 0) root_within
   of_clause (Kind.Requires parent d r) k =
-      All-cons Known (Neg parent) (condition_literals (kept_literals st) d ++ flat_map (map Pos) (unwrap_or (lists_of st r) [])) (variable_within parent k.0)
-      (All-append Known (condition_literals (kept_literals st) d) (flat_map (map Pos) (unwrap_or (lists_of st r) [])) (condition_known d) (candidates_known r))
+      All-cons Known (Neg parent) (condition_literals (stored_of st) d ++ flat_map (map Pos) (unwrap_or (lists_of st r) [])) (variable_within parent k.0)
+      (All-append Known (condition_literals (stored_of st) d) (flat_map (map Pos) (unwrap_or (lists_of st r) [])) (condition_known d) (candidates_known r))
   of_clause (Kind.ForbidMultipleInstances a l n) k = two (Neg a) l (variable_within a k.0) (variable_within (variable_of l) k.1)
   of_clause (Kind.Constrains a b v) k = two (Neg a) (Neg b) (variable_within a k.0) (variable_within b k.1)
   of_clause (Kind.ConstrainsExcluded a aux v) k = two (Neg a) (Pos aux) (variable_within a k.0) (variable_within aux k.1)
@@ -114,8 +114,8 @@ module _ {N S : Type 0} (st : Store N S) (sound : IsSound st) where
   literal_known c l h = go st.clauses c sound.clauses_known h
     where
       go : (cs : List (Clause N)) (i : ℕ) → All (IsKnownClause st.provider.universe st.origins) cs
-          → is_literal_in l (unwrap_or (option_map (literals_of (kept_literals st)) (slice_get cs i)) []) ≡ true → IsVariable st (variable_of l)
+          → is_literal_in l (unwrap_or (option_map (literals_of (stored_of st)) (slice_get cs i)) []) ≡ true → IsVariable st (variable_of l)
       go [] i all k = (let no : false ≡ true = k in cc)
       go (d ∷ cs) zero all k =
-          member_below (length st.origins) l (literals_of (kept_literals st) d) (of_clause d (All-head (IsKnownClause st.provider.universe st.origins) d cs all)) k
+          member_below (length st.origins) l (literals_of (stored_of st) d) (of_clause d (All-head (IsKnownClause st.provider.universe st.origins) d cs all)) k
       go (d ∷ cs) (suc i) all k = go cs i (All-tail (IsKnownClause st.provider.universe st.origins) d cs all) k

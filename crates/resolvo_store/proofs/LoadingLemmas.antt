@@ -12,11 +12,11 @@ use Rattle.typed_ids.specs.declared.version_set_id.VersionSetId.{VersionSetId}
 use Rattle.providers.specs.declared.requirement.Requirement.{Requirement}
 use Rattle.providers.specs.Provider.{sets_of, knows_requirement}
 use Rattle.variables.specs.Variables.{lacks_variables}
-use Rattle.solver_cache.specs.Cache.{Cache, is_asked, is_set_asked}
+use Rattle.solver_cache.specs.Cache.{Cache, is_queried, is_set_queried}
 use Rattle.solver_cache.specs.Questions.{lacks_candidates}
 use Rattle.resolvo_store.specs.Command.{Reply, Load, LoadedAs, Refused}
 use Rattle.resolvo_store.specs.LoadRefusals.{IsLoadRefusal}
-use Rattle.resolvo_store.specs.Lists.{AreAsked}
+use Rattle.resolvo_store.specs.Lists.{AreQueried}
 use Rattle.resolvo_store.specs.Store.{Store, lists_of, all_candidates}
 use Rattle.resolvo_store.specs.Outcome.{load, variables_loaded}
 use Rattle.resolvo_store.specs.Step.{is_named, lacks_ids, may_be_refused, IsAnswered, Step}
@@ -72,42 +72,42 @@ module _ {N S : Type 0} (st : Store N S) (r : Requirement) where
   -- ---- refusals of a Load that is new
 
   module _ {D A H : Type 0} (old after : Cache D N S A H) (is_sameness : (a b : N) → st.provider.same_name a b ≡ true → a ≡ b)
-      (asked : AreAsked st.provider old st.loaded) where
+      (asked : AreQueried st.provider old st.loaded) where
     abbrev name : VersionSetId → N
     name v = st.provider.universe.set_name v
 
     -- a package of which a version set is among these, all of which were asked for
-    among : (n : N) (vs : List VersionSetId) → All (λ v. is_set_asked st.provider old v ≡ true) vs → list_any (λ v. st.provider.same_name n (name v)) vs ≡ true
-        → is_asked st.provider old n ≡ true
+    among : (n : N) (vs : List VersionSetId) → All (λ v. is_set_queried st.provider old v ≡ true) vs → list_any (λ v. st.provider.same_name n (name v)) vs ≡ true
+        → is_queried st.provider old n ≡ true
     among n [] all h = absurd (true≢false (sym h))
     among n (v ∷ vs) all h =
-        by_test (st.provider.same_name n (name v)) refl h (among n vs (All-tail (λ w. is_set_asked st.provider old w ≡ true) v vs all))
+        by_test (st.provider.same_name n (name v)) refl h (among n vs (All-tail (λ w. is_set_queried st.provider old w ≡ true) v vs all))
       where
         by_test : (b : Bool) → st.provider.same_name n (name v) ≡ b → (b || list_any (λ w. st.provider.same_name n (name w)) vs) ≡ true
-            → (list_any (λ w. st.provider.same_name n (name w)) vs ≡ true → is_asked st.provider old n ≡ true) → is_asked st.provider old n ≡ true
-        by_test true t e rest = subst (λ m. is_asked st.provider old m ≡ true) (sym (is_sameness n (name v) t)) (All-head (λ w. is_set_asked st.provider old w ≡ true) v vs all)
+            → (list_any (λ w. st.provider.same_name n (name w)) vs ≡ true → is_queried st.provider old n ≡ true) → is_queried st.provider old n ≡ true
+        by_test true t e rest = subst (λ m. is_queried st.provider old m ≡ true) (sym (is_sameness n (name v) t)) (All-head (λ w. is_set_queried st.provider old w ≡ true) v vs all)
         by_test false t e rest = rest e
 
     abbrev OfEntry : Requirement × List (List ℕ) → Type 0
-    OfEntry e = All (λ v. is_set_asked st.provider old v ≡ true) (sets_of st.provider.universe e.0)
+    OfEntry e = All (λ v. is_set_queried st.provider old v ≡ true) (sets_of st.provider.universe e.0)
 
     -- one of these entries names the package
     abbrev one_names : N → List (Requirement × List (List ℕ)) → Bool
     one_names n es = list_any (λ (e : Requirement × List (List ℕ)). list_any (λ v. st.provider.same_name n (name v)) (sets_of st.provider.universe e.0)) es
 
     -- a package that an accepted Load named was asked for
-    named_asked : (n : N) (es : List (Requirement × List (List ℕ))) → AreAsked st.provider old es → one_names n es ≡ true → is_asked st.provider old n ≡ true
+    named_asked : (n : N) (es : List (Requirement × List (List ℕ))) → AreQueried st.provider old es → one_names n es ≡ true → is_queried st.provider old n ≡ true
     named_asked n [] all h = absurd (true≢false (sym h))
     named_asked n (e ∷ es) all h =
         by_test (list_any (λ v. st.provider.same_name n (name v)) (sets_of st.provider.universe e.0)) refl h (named_asked n es (All-tail OfEntry e es all))
       where
         by_test : (b : Bool) → list_any (λ v. st.provider.same_name n (name v)) (sets_of st.provider.universe e.0) ≡ b → (b || one_names n es) ≡ true
-            → (one_names n es ≡ true → is_asked st.provider old n ≡ true) → is_asked st.provider old n ≡ true
+            → (one_names n es ≡ true → is_queried st.provider old n ≡ true) → is_queried st.provider old n ≡ true
         by_test true t k rest = among n (sets_of st.provider.universe e.0) (All-head OfEntry e es all) t
         by_test false t k rest = rest k
 
     -- so one that wasn't asked for wasn't named
-    unasked_new : (v : VersionSetId) → is_set_asked st.provider old v ≡ false → not (is_named st (name v)) ≡ true
+    unasked_new : (v : VersionSetId) → is_set_queried st.provider old v ≡ false → not (is_named st (name v)) ≡ true
     unasked_new v h = by_test (is_named st (name v)) refl
       where
         by_test : (b : Bool) → is_named st (name v) ≡ b → not b ≡ true
@@ -118,22 +118,22 @@ module _ {N S : Type 0} (st : Store N S) (r : Requirement) where
     are_new vs = list_any (λ v. not (is_named st (name v))) vs
 
     -- where not all packages were asked for, one is new
-    some_new : (vs : List VersionSetId) → list_all (is_set_asked st.provider old) vs ≡ false → are_new vs ≡ true
+    some_new : (vs : List VersionSetId) → list_all (is_set_queried st.provider old) vs ≡ false → are_new vs ≡ true
     some_new [] h = absurd (true≢false h)
-    some_new (v ∷ vs) h = by_test (is_set_asked st.provider old v) refl h (some_new vs)
+    some_new (v ∷ vs) h = by_test (is_set_queried st.provider old v) refl h (some_new vs)
       where
-        by_test : (b : Bool) → is_set_asked st.provider old v ≡ b → (b && list_all (is_set_asked st.provider old) vs) ≡ false
-            → (list_all (is_set_asked st.provider old) vs ≡ false → are_new vs ≡ true) → (not (is_named st (name v)) || are_new vs) ≡ true
+        by_test : (b : Bool) → is_set_queried st.provider old v ≡ b → (b && list_all (is_set_queried st.provider old) vs) ≡ false
+            → (list_all (is_set_queried st.provider old) vs ≡ false → are_new vs ≡ true) → (not (is_named st (name v)) || are_new vs) ≡ true
         by_test true t e rest = ap (λ b. not (is_named st (name v)) || b) (rest e) ∙ or-true (not (is_named st (name v)))
         by_test false t e rest = ap (λ b. b || are_new vs) (unasked_new v t)
 
     abbrev lacking : VersionSetId → Bool
-    lacking v = not (is_set_asked st.provider old v) && lacks_candidates st.provider after (name v)
+    lacking v = not (is_set_queried st.provider old v) && lacks_candidates st.provider after (name v)
 
     -- where no answer can be kept for a package, it is too large, or one is new and names may be many
     some_lack : (vs : List VersionSetId) → list_any lacking vs ≡ true → (list_any is_large vs || (st.provider.are_names_many && are_new vs)) ≡ true
     some_lack [] h = absurd (true≢false (sym h))
-    some_lack (v ∷ vs) h = by_asked (is_set_asked st.provider old v) refl h (some_lack vs)
+    some_lack (v ∷ vs) h = by_asked (is_set_queried st.provider old v) refl h (some_lack vs)
       where
         Goal : Type 0
         Goal = ((is_large v || list_any is_large vs) || (st.provider.are_names_many && (not (is_named st (name v)) || are_new vs))) ≡ true
@@ -141,17 +141,17 @@ module _ {N S : Type 0} (st : Store N S) (r : Requirement) where
         Rest : Type 0
         Rest = list_any lacking vs ≡ true → (list_any is_large vs || (st.provider.are_names_many && are_new vs)) ≡ true
 
-        by_lacks : (b : Bool) → lacks_candidates st.provider after (name v) ≡ b → is_set_asked st.provider old v ≡ false → (b || list_any lacking vs) ≡ true → Rest → Goal
+        by_lacks : (b : Bool) → lacks_candidates st.provider after (name v) ≡ b → is_set_queried st.provider old v ≡ false → (b || list_any lacking vs) ≡ true → Rest → Goal
         by_lacks true t a e rest = lacks_here (is_large v) (list_any is_large vs) st.provider.are_names_many (leb (2 ^ 32) (length after.candidates)) (are_new vs) _ (unasked_new v a) t
         by_lacks false t a e rest = lacks_behind (is_large v) (list_any is_large vs) st.provider.are_names_many (not (is_named st (name v))) (are_new vs) (rest e)
 
-        by_asked : (b : Bool) → is_set_asked st.provider old v ≡ b → ((not b && lacks_candidates st.provider after (name v)) || list_any lacking vs) ≡ true → Rest → Goal
+        by_asked : (b : Bool) → is_set_queried st.provider old v ≡ b → ((not b && lacks_candidates st.provider after (name v)) || list_any lacking vs) ≡ true → Rest → Goal
         by_asked true t e rest = lacks_behind (is_large v) (list_any is_large vs) st.provider.are_names_many (not (is_named st (name v))) (are_new vs) (rest e)
         by_asked false t e rest = by_lacks (lacks_candidates st.provider after (name v)) refl t e rest
 
     -- why the cache and the variables refuse is why a Load may be refused
     pub load_refused : lists_of st r ≡ None → (e : StoreError)
-        → IsLoadRefusal (list_all (is_set_asked st.provider old) sets) (list_any lacking sets || (rows_out || variables_out)) e → may_be_refused st (Load r) e ≡ true
+        → IsLoadRefusal (list_all (is_set_queried st.provider old) sets) (list_any lacking sets || (rows_out || variables_out)) e → may_be_refused st (Load r) e ≡ true
     load_refused fresh OutOfMemory h = refl
     load_refused fresh Cancelled h = some_new sets h
     load_refused fresh IdSpace h =

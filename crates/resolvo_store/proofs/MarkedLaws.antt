@@ -26,8 +26,8 @@ use Rattle.watch_map.specs.declared.marks.Limit.TheVariants.{Place}
 use Rattle.watch_map.proofs.ListCallerLaws.{watched_at, set_watches, watching_within}
 use Rattle.watch_map.proofs.MarkLaws.{marks_longer, marks_shorter, marks_grown, marks_watching}
 use Rattle.watch_map.proofs.MarkedLists.{marks_added}
-use Rattle.resolvo_store.specs.Store.{Store, KeptDisjunction, clause_literals, kept_literals, watched_by}
-use Rattle.resolvo_store.specs.Lists.{HasMarks, lists_kept, disjunctions_kept}
+use Rattle.resolvo_store.specs.Store.{Store, StoredDisjunction, clause_literals, stored_of, watched_by}
+use Rattle.resolvo_store.specs.Lists.{HasMarks, lists_of_loaded, stored_disjunctions}
 use Rattle.resolvo_store.proofs.AddingLemmas.{both}
 use Rattle.resolvo_store.proofs.InvariantLemmas.{list_of, with_list, either}
 use Rattle.resolvo_store.proofs.ListLemmas.{items_of, insert-kept}
@@ -133,9 +133,9 @@ module _ {N S : Type 0} (st : Store N S) (marks : List Mark) (has : HasMarks st 
       λ c l h.
       subst (λ ds. is_literal_in l (clause_literals (with_list st (record cs { clauses = ds })) c) ≡ true)
       (sym is.more_clauses)
-      (at_before (literals_of (kept_literals new)) st.clauses is.clauses c l
-      (at_grown (literals_of (kept_literals st)) (literals_of (kept_literals new))
-      (literals_learnt (kept_literals st) cs.learnt
+      (at_before (literals_of (stored_of new)) st.clauses is.clauses c l
+      (at_grown (literals_of (stored_of st)) (literals_of (stored_of new))
+      (literals_learnt (stored_of st) cs.learnt
       (λ id m k. subst (λ ls. is_literal_in m (unwrap_or (slice_get ls id) []) ≡ true) (sym is.more_learnt)
       (found_before st.learnt is.learnt id m k)))
       st.clauses c l h)) in
@@ -151,34 +151,34 @@ module _ {N S : Type 0} (st : Store N S) (marks : List Mark) (has : HasMarks st 
   -- where one requirement more was loaded
   pub marks_loaded : {A : Type 0} (loaded : List (Requirement × Vec (Vec ℕ A) A)) (r : Requirement)
       (lists : Vec (Vec ℕ A) A) {new : List (Requirement × Vec (Vec ℕ A) A)}
-      → lookup (same_requirement r) (lists_kept loaded) ≡ None → st.loaded ≡ lists_kept loaded →
+      → lookup (same_requirement r) (lists_of_loaded loaded) ≡ None → st.loaded ≡ lists_of_loaded loaded →
       new ≡ with_entry loaded r lists
-      → HasMarks (record st { loaded = lists_kept new }) marks
+      → HasMarks (record st { loaded = lists_of_loaded new }) marks
   marks_loaded loaded r lists fresh kept keeps =
       let entry : Requirement × List (List ℕ) = (r, items_of lists) in
       let after : Store N S = record st { loaded = st.loaded ++ entry ∷ [] } in
       subst (λ ls. HasMarks (record st { loaded = ls }) marks)
-      (ap (λ ls. ls ++ entry ∷ []) kept ∙ sym (ap lists_kept keeps ∙ insert-kept loaded r lists fresh))
+      (ap (λ ls. ls ++ entry ∷ []) kept ∙ sym (ap lists_of_loaded keeps ∙ insert-kept loaded r lists fresh))
       (marks_grown (clause_literals st) (watched_by st) st.trail marks has (clause_literals after)
-      (at_grown (literals_of (kept_literals st)) (literals_of (kept_literals after))
-      (literals_listed (kept_literals st) (kept_literals after).lists (λ s l h. lists_before st.loaded entry s l h))
+      (at_grown (literals_of (stored_of st)) (literals_of (stored_of after))
+      (literals_listed (stored_of st) (stored_of after).lists (λ s l h. lists_before st.loaded entry s l h))
       st.clauses))
 
   -- where one disjunction more was to be kept
   pub marks_asked : {A T E : Type 0} (disjunctions : List (Disjunction A)) (ls : List Lit) (condition : ℕ)
       (ds : List (Disjunction A)) (result : Result T E)
-      → st.disjunctions ≡ disjunctions_kept disjunctions
-      → OnOk result (disjunctions_kept ds ≡ disjunctions_kept disjunctions ++
+      → st.disjunctions ≡ stored_disjunctions disjunctions
+      → OnOk result (stored_disjunctions ds ≡ stored_disjunctions disjunctions ++
       record { literals = ls; condition = condition } ∷ []) → OnErr result (ds ≡ disjunctions)
-      → HasMarks (record st { disjunctions = disjunctions_kept ds }) marks
+      → HasMarks (record st { disjunctions = stored_disjunctions ds }) marks
   marks_asked disjunctions ls condition ds result kept ok err = elim (either result ok err) [
     | inl more ↦ subst (λ es. HasMarks (record st { disjunctions = es }) marks)
         (sym (more ∙ ap (λ es. es ++ one ∷ []) (sym kept))) grown
     | inr same ↦ subst (λ es. HasMarks (record st { disjunctions = es }) marks)
-        (kept ∙ ap disjunctions_kept (sym same)) has
+        (kept ∙ ap stored_disjunctions (sym same)) has
   ]
     where
-      one : KeptDisjunction
+      one : StoredDisjunction
       one = record { literals = ls; condition = condition }
 
       grown : HasMarks (record st { disjunctions = st.disjunctions ++ one ∷ [] }) marks
@@ -186,11 +186,11 @@ module _ {N S : Type 0} (st : Store N S) (marks : List Mark) (has : HasMarks st 
           let new : Store N S = record st { disjunctions = st.disjunctions ++ one ∷ [] } in
           let more : List (List Lit) = map (λ x. x.literals) st.disjunctions ++ ls ∷ [] in
           marks_grown (clause_literals st) (watched_by st) st.trail marks has (clause_literals new)
-          (at_grown (literals_of (kept_literals st)) (literals_of (kept_literals new))
-          (λ c l h. subst (λ es. is_literal_in l (literals_of (record (kept_literals st) { disjunctions = es }) c) ≡
+          (at_grown (literals_of (stored_of st)) (literals_of (stored_of new))
+          (λ c l h. subst (λ es. is_literal_in l (literals_of (record (stored_of st) { disjunctions = es }) c) ≡
           true)
           (sym (map-append (λ x. x.literals) st.disjunctions (one ∷ [])))
-          (literals_asked (kept_literals st) more (asked_before (kept_literals st) (ls ∷ [])) c l h)) st.clauses)
+          (literals_asked (stored_of st) more (asked_before (stored_of st) (ls ∷ [])) c l h)) st.clauses)
 
   -- on another trail of the same entries
   pub marks_same : (t : Trail) → t.entries ≡ st.trail →

@@ -10,12 +10,12 @@ use Rattle.decisions.specs.declared.decision.Decision.{Decision}
 use Rattle.clauses.specs.declared.clause.Clause.{Clause}
 use Rattle.clauses.specs.Clauses.{same_literal, literals_of}
 use Rattle.watch_map.specs.Watching.{is_literal_in}
-use Rattle.watch_map.specs.Forcing.{is_false, are_others_false, decided_literal, IsForced, AreForced}
-use Rattle.watch_map.proofs.ForcingLaws.{forced_is_own}
+use Rattle.watch_map.specs.Implication.{is_false, are_others_false, decided_literal, IsImplied, AreImplied}
+use Rattle.watch_map.proofs.ImplicationLaws.{forced_is_own}
 use Rattle.watch_map.proofs.ValueLaws.{val_of_more}
 use Rattle.watch_map.proofs.WatchingLaws.{same_is}
-use Rattle.resolvo_store.specs.Store.{Store, values, kept_literals, clause_literals}
-use Rattle.resolvo_store.specs.ForbidsTwo.{is_true_literal, is_met}
+use Rattle.resolvo_store.specs.Store.{Store, values, stored_of, clause_literals}
+use Rattle.resolvo_store.specs.ForbidsTwo.{is_true_literal, is_satisfied}
 use Rattle.resolvo_store.specs.Models.{Agrees, IsModel, IsModelNow}
 use Rattle.resolvo_store.specs.Saturating.{IsSaturated, HasConflict}
 use Rattle.resolvo_store.proofs.AddingLemmas.{both}
@@ -77,8 +77,8 @@ decided_value a d h = by_value d.value h
 -- ---- entries
 
 module _ (literals : ℕ → List Lit) (level : ℕ) (a : ℕ → Bool) (met : (c : ℕ) (l : Lit) → is_literal_in l (literals c) ≡ true → list_any (is_true_literal a) (literals c) ≡ true) where
-  one_agrees : (es : List Entry) (e : Entry) → IsForced literals level es e → Agrees (val es) a → Agrees (val (es ++ e ∷ [])) a
-  one_agrees es e forced agrees v value h = elim (val_of_more es e v value h) [
+  one_agrees : (es : List Entry) (e : Entry) → IsImplied literals level es e → Agrees (val es) a → Agrees (val (es ++ e ∷ [])) a
+  one_agrees es e implied agrees v value h = elim (val_of_more es e v value h) [
     | inl old ↦ agrees v value old
     | inr new ↦ subst (λ x. a x ≡ value) new.0 (own ∙ new.1)
   ]
@@ -91,16 +91,16 @@ module _ (literals : ℕ → List Lit) (level : ℕ) (a : ℕ → Bool) (met : (
 
       own : a e.decision.variable ≡ e.decision.value
       own =
-          let is_own = forced_is_own literals level es e forced in
+          let is_own = forced_is_own literals level es e implied in
           let rest = both (undecided (truth (val es) l)) (are_others_false (val es) ls l)
-          (both (is_literal_in l ls) (undecided (truth (val es) l) && are_others_false (val es) ls l) forced.forced).1 in
+          (both (is_literal_in l ls) (undecided (truth (val es) l) && are_others_false (val es) ls l) implied.implied).1 in
           decided_value a e.decision (left_is_true (val es) a agrees l ls rest.1 (met e.decision.derived_from l is_own))
 
   -- truth values that agree with a trail agree with what clauses force behind it, if they meet these clauses
-  all_agree : (es added : List Entry) → AreForced literals level es added → Agrees (val es) a → Agrees (val (es ++ added)) a
-  all_agree es [] forced agrees = subst (λ fs. Agrees (val fs) a) (sym (append-nil es)) agrees
-  all_agree es (e ∷ added) forced agrees =
-      subst (λ fs. Agrees (val fs) a) (append_assoc es (e ∷ []) added) (all_agree (es ++ e ∷ []) added forced.1 (one_agrees es e forced.0 agrees))
+  all_agree : (es added : List Entry) → AreImplied literals level es added → Agrees (val es) a → Agrees (val (es ++ added)) a
+  all_agree es [] implied agrees = subst (λ fs. Agrees (val fs) a) (sym (append-nil es)) agrees
+  all_agree es (e ∷ added) implied agrees =
+      subst (λ fs. Agrees (val fs) a) (append_assoc es (e ∷ []) added) (all_agree (es ++ e ∷ []) added implied.1 (one_agrees es e implied.0 agrees))
 
 -- ---- stores
 
@@ -109,22 +109,22 @@ module _ {N S : Type 0} where
   clause_met : (st : Store N S) (a : ℕ → Bool) → IsModel st a → (c : ℕ) → c < length st.clauses → list_any (is_true_literal a) (clause_literals st c) ≡ true
   clause_met st a model c within = go st.clauses c model within
     where
-      go : (cs : List (Clause N)) (i : ℕ) → All (λ d. is_met st a d ≡ true) cs → i < length cs
-          → list_any (is_true_literal a) (unwrap_or (option_map (literals_of (kept_literals st)) (slice_get cs i)) []) ≡ true
+      go : (cs : List (Clause N)) (i : ℕ) → All (λ d. is_satisfied st a d ≡ true) cs → i < length cs
+          → list_any (is_true_literal a) (unwrap_or (option_map (literals_of (stored_of st)) (slice_get cs i)) []) ≡ true
       go [] i all below = absurd (omega (arith, below))
-      go (d ∷ cs) zero all below = All-head (λ x. is_met st a x ≡ true) d cs all
-      go (d ∷ cs) (suc i) all below = go cs i (All-tail (λ x. is_met st a x ≡ true) d cs all) (omega (arith, below))
+      go (d ∷ cs) zero all below = All-head (λ x. is_satisfied st a x ≡ true) d cs all
+      go (d ∷ cs) (suc i) all below = go cs i (All-tail (λ x. is_satisfied st a x ≡ true) d cs all) (omega (arith, below))
 
   -- a saturation rules out no model
   pub models_kept : (level : ℕ) (old new : Store N S) → IsSaturated level old new → (a : ℕ → Bool) → IsModelNow old a → IsModelNow new a
   models_kept level old new is a model = subst (λ st. IsModelNow st a) (sym is.rest) (record {
-    meets = model.meets;
-    agrees = all_agree (clause_literals old) level a (λ c l h. clause_met old a model.meets c (clause_there old c l h)) old.trail is.added is.forced model.agrees;
+    satisfies = model.satisfies;
+    agrees = all_agree (clause_literals old) level a (λ c l h. clause_met old a model.satisfies c (clause_there old c l h)) old.trail is.added is.implied model.agrees;
   })
 
   -- and a conflict leaves none
   pub conflict_rules_out : (st : Store N S) (c : ℕ) → HasConflict st c → (a : ℕ → Bool) → IsModelNow st a → ⊥
   conflict_rules_out st c conflict a model =
-      let met = clause_met st a model.meets c conflict.0 in
+      let met = clause_met st a model.satisfies c conflict.0 in
       let untrue = none_true (values st) a model.agrees (clause_literals st c) conflict.1 in
       (let no : true ≡ false = sym met ∙ untrue in cc)

@@ -16,7 +16,7 @@ use Rattle.variables.specs.declared.variable_origin.VariableOrigin.TheVariants.{
 use Rattle.variables.specs.Variables.{IsRootFirst, is_solvable, variable_of_solvable, interned_variable, with_variable, with_variables}
 use Rattle.variables.proofs.VariableLemmas.{or_else, position_within, position-append, root-append}
 use Rattle.variables.proofs.InterningLemmas.{variable-kept, kept-all, variable-with_variable}
-use Rattle.decisions.specs.Trail.{Entry, val, kept_until, IsOnce}
+use Rattle.decisions.specs.Trail.{Entry, val, entries_until, IsOnce}
 use Rattle.clauses.specs.declared.clause.Clause.{Clause}
 use Rattle.clauses.specs.declared.clause.Clause.TheVariants as Kind
 use Rattle.resolvo_store.specs.Sound.{requires_from}
@@ -158,31 +158,31 @@ module _ {N S : Type 0} (same : S → S → Bool) where
 -- ---- trails
 
 -- a variable without an entry has none among those that are kept
-val-kept_until : (l : ℕ) (es : List Entry) (x : ℕ) → val es x ≡ None → val (kept_until l es) x ≡ None
-val-kept_until l [] x none = none
-val-kept_until l (e ∷ es) x none =
-    elim (list_all (λ f. nat_lt l f.level) (e ∷ es)) as (λ b. val (cond b [] (e ∷ kept_until l es)) x ≡ None) [
+val-entries_until : (l : ℕ) (es : List Entry) (x : ℕ) → val es x ≡ None → val (entries_until l es) x ≡ None
+val-entries_until l [] x none = none
+val-entries_until l (e ∷ es) x none =
+    elim (list_all (λ f. nat_lt l f.level) (e ∷ es)) as (λ b. val (cond b [] (e ∷ entries_until l es)) x ≡ None) [
       | true ↦ refl
       | false ↦ (elim (e.decision.variable == x) as (λ t. cond t (Some e.decision.value) (val es x) ≡ None →
-          cond t (Some e.decision.value) (val (kept_until l es) x) ≡ None)
-          [ true ↦ λ h. h | false ↦ λ h. val-kept_until l es x h ]) none
+          cond t (Some e.decision.value) (val (entries_until l es) x) ≡ None)
+          [ true ↦ λ h. h | false ↦ λ h. val-entries_until l es x h ]) none
     ]
 
 -- what is true of each entry is true of each that is kept
-pub All-kept_until : (P : Entry → Type 0) (l : ℕ) (es : List Entry) → All P es → All P (kept_until l es)
-All-kept_until P l [] all = all
-All-kept_until P l (e ∷ es) all =
-    elim (list_all (λ f. nat_lt l f.level) (e ∷ es)) as (λ b. All P (cond b [] (e ∷ kept_until l es))) [
+pub All-entries_until : (P : Entry → Type 0) (l : ℕ) (es : List Entry) → All P es → All P (entries_until l es)
+All-entries_until P l [] all = all
+All-entries_until P l (e ∷ es) all =
+    elim (list_all (λ f. nat_lt l f.level) (e ∷ es)) as (λ b. All P (cond b [] (e ∷ entries_until l es))) [
       | true ↦ All-nil P
-      | false ↦ All-cons P e (kept_until l es) (All-head P e es all) (All-kept_until P l es (All-tail P e es all))
+      | false ↦ All-cons P e (entries_until l es) (All-head P e es all) (All-entries_until P l es (All-tail P e es all))
     ]
 
-pub IsOnce-kept_until : (l : ℕ) (es : List Entry) → IsOnce es → IsOnce (kept_until l es)
-IsOnce-kept_until l [] once = tt
-IsOnce-kept_until l (e ∷ es) once =
-    elim (list_all (λ f. nat_lt l f.level) (e ∷ es)) as (λ b. IsOnce (cond b [] (e ∷ kept_until l es))) [
+pub IsOnce-entries_until : (l : ℕ) (es : List Entry) → IsOnce es → IsOnce (entries_until l es)
+IsOnce-entries_until l [] once = tt
+IsOnce-entries_until l (e ∷ es) once =
+    elim (list_all (λ f. nat_lt l f.level) (e ∷ es)) as (λ b. IsOnce (cond b [] (e ∷ entries_until l es))) [
       | true ↦ tt
-      | false ↦ (val-kept_until l es e.decision.variable once.0, IsOnce-kept_until l es once.1)
+      | false ↦ (val-entries_until l es e.decision.variable once.0, IsOnce-entries_until l es once.1)
     ]
 
 -- the same of the entries before a place

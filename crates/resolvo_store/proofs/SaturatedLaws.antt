@@ -8,9 +8,9 @@ use Rattle.typed_ids.specs.declared.error.StoreError.TheVariants.{OutOfMemory, L
 use Rattle.decisions.specs.Literals.{Lit}
 use Rattle.decisions.specs.Trail.{Entry, HasLevel}
 use Rattle.watch_map.specs.Watching.{IsExact}
-use Rattle.watch_map.specs.Forcing.{IsForced, AreForced, decided_literal}
+use Rattle.watch_map.specs.Implication.{IsImplied, AreImplied, decided_literal}
 use Rattle.watch_map.specs.Saturation.{IsRearranged}
-use Rattle.watch_map.proofs.ForcingLaws.{forced_was_open, forced_is_own}
+use Rattle.watch_map.proofs.ImplicationLaws.{forced_was_open, forced_is_own}
 use Rattle.watch_map.proofs.ValueLaws.{decided_variable}
 use Rattle.resolvo_store.specs.Command.{Command, Saturate, Reply, Done, Conflict, Refused, IsRefused, is_saturate}
 use Rattle.resolvo_store.specs.Store.{Store, clause_literals, watched_by}
@@ -44,22 +44,22 @@ module _ {N S : Type 0} where
 
   module _ (level : ℕ) (in_range : (1 ≤ level) × (level < 2 ^ 31)) where
     -- a forced entry has its level, and is of a variable and a clause of the store
-    has_level : (st : Store N S) (e : Entry) → IsForced (clause_literals st) level st.trail e → HasLevel e
-    has_level st e forced = subst (λ n. (1 ≤ n) × (n < 2 ^ 31)) (sym forced.at_level) in_range
+    has_level : (st : Store N S) (e : Entry) → IsImplied (clause_literals st) level st.trail e → HasLevel e
+    has_level st e implied = subst (λ n. (1 ≤ n) × (n < 2 ^ 31)) (sym implied.at_level) in_range
 
-    is_assigned : (st : Store N S) → IsSound st → (e : Entry) → IsForced (clause_literals st) level st.trail e → IsAssigned st e
-    is_assigned st sound e forced =
-        let own = forced_is_own (clause_literals st) level st.trail e forced in
+    is_assigned : (st : Store N S) → IsSound st → (e : Entry) → IsImplied (clause_literals st) level st.trail e → IsAssigned st e
+    is_assigned st sound e implied =
+        let own = forced_is_own (clause_literals st) level st.trail e implied in
         let known = literal_known st sound e.decision.derived_from (decided_literal e.decision) own in
         record { variable = subst (IsVariable st) (decided_variable e.decision) known; clause = clause_there st e.decision.derived_from (decided_literal e.decision) own }
 
     -- entries that clauses force, one after another
-    IsSound-forced : (st : Store N S) (added : List Entry) → IsSound st → AreForced (clause_literals st) level st.trail added → IsSound (record st { trail = st.trail ++ added })
-    IsSound-forced st [] sound forced = subst (λ es. IsSound (record st { trail = es })) (sym (append-nil st.trail)) sound
-    IsSound-forced st (e ∷ added) sound forced =
+    IsSound-implied : (st : Store N S) (added : List Entry) → IsSound st → AreImplied (clause_literals st) level st.trail added → IsSound (record st { trail = st.trail ++ added })
+    IsSound-implied st [] sound implied = subst (λ es. IsSound (record st { trail = es })) (sym (append-nil st.trail)) sound
+    IsSound-implied st (e ∷ added) sound implied =
         subst (λ es. IsSound (record st { trail = es })) (append_assoc st.trail (e ∷ []) added)
-        (IsSound-forced (record st { trail = st.trail ++ e ∷ [] }) added
-        (IsSound-pushed st sound e (forced_was_open (clause_literals st) level st.trail e forced.0) (is_assigned st sound e forced.0) (has_level st e forced.0)) forced.1)
+        (IsSound-implied (record st { trail = st.trail ++ e ∷ [] }) added
+        (IsSound-pushed st sound e (forced_was_open (clause_literals st) level st.trail e implied.0) (is_assigned st sound e implied.0) (has_level st e implied.0)) implied.1)
 
   -- other watches of their clauses' own literals, in exact lists
   IsSound-rearranged : (st : Store N S) (watches : List (List Lit)) (watchers : Lit → List ℕ) (new : Store N S) → new ≡ record st { watches = watches; watchers = watchers }
@@ -90,7 +90,7 @@ module _ {N S : Type 0} where
   pub IsSound-saturated : (level : ℕ) (old new : Store N S) → (1 ≤ level) × (level < 2 ^ 31) → IsSound old → IsSaturated level old new → IsSound new
   IsSound-saturated level old new in_range sound is =
       IsSound-rearranged (record old { trail = old.trail ++ is.added }) is.watches is.watchers new is.rest
-      (IsSound-forced level in_range old is.added sound is.forced) is.rearranged is.watched is.exact
+      (IsSound-implied level in_range old is.added sound is.implied) is.rearranged is.watched is.exact
 
   -- ---- refusals
 
@@ -98,7 +98,7 @@ module _ {N S : Type 0} where
   unchanged : (st : Store N S) (level : ℕ) → IsSound st → IsSaturated level st st
   unchanged st level sound = record {
     added = [];
-    forced = tt;
+    implied = tt;
     watches = st.watches;
     watchers = st.watchers;
     rest = ap (λ es. record st { trail = es }) (sym (append-nil st.trail));

@@ -11,8 +11,8 @@ use Rattle.decisions.specs.Trail.{Entry, Trail, val}
 use Rattle.clauses.specs.declared.disjunction.Disjunction.{Disjunction}
 use Rattle.watch_map.specs.ClauseList.{Clauses, IsClauseList}
 use Rattle.watch_map.specs.ClauseList as in_list
-use Rattle.watch_map.specs.Forcing.{AreForced, AreSettled, IsConflict}
-use Rattle.watch_map.specs.Saturation.{HasForced, IsRearranged}
+use Rattle.watch_map.specs.Implication.{AreImplied, AreSettled, IsConflict}
+use Rattle.watch_map.specs.Saturation.{HasImplied, IsRearranged}
 use Rattle.solver_cache.specs.Cache.{Cache}
 use Rattle.resolvo_queue.specs.Queue.{Queue}
 use Rattle.resolvo_store.specs.Command.{Saturate, Reply, Refused}
@@ -26,7 +26,7 @@ use Rattle.resolvo_store.specs.Sound.{IsSound}
 use Rattle.resolvo_store.proofs.AddingLemmas.{first_of}
 use Rattle.resolvo_store.proofs.InvariantLemmas.{with_list}
 use Rattle.resolvo_store.proofs.SaturatedLaws.{IsSound-saturated}
-use Rattle.resolvo_store.proofs.SyncedLemmas.{in_step-forced}
+use Rattle.resolvo_store.proofs.SyncedLemmas.{in_step-implied}
 
 module _ {N S : Type 0} (st : Store N S) where
   -- and at one that is
@@ -45,7 +45,7 @@ module _ {N S : Type 0} (st : Store N S) where
     pub learnt : cs.learnt ≡ st.learnt
     pub rearranged : IsRearranged literals (watched_by st) (in_list.watched_by cs)
     pub is_list : IsClauseList cs
-    pub forced : HasForced literals level before after
+    pub implied : HasImplied literals level before after
 
   module _ (sound : IsSound st) (literals : ℕ → List Lit) (level : ℕ) (before after : Trail) (cs : Clauses N) (left : HasLeft literals level before after cs)
       (entries : before.entries ≡ st.trail) (place : before.place ≡ st.place) where
@@ -55,17 +55,17 @@ module _ {N S : Type 0} (st : Store N S) where
         ap (λ x. record st { clauses = x; learnt = cs.learnt; watches = cs.watches; watchers = cs.watchers; trail = after.entries; place = after.place }) left.clauses
         ∙ ap (λ x. record st { learnt = x; watches = cs.watches; watchers = cs.watchers; trail = after.entries; place = after.place }) left.learnt
         ∙ ap (λ x. record st { watches = cs.watches; watchers = cs.watchers; trail = x; place = after.place }) longer
-        ∙ ap (λ x. record st { watches = cs.watches; watchers = cs.watchers; trail = st.trail ++ added; place = x }) (left.forced.place ∙ place)
+        ∙ ap (λ x. record st { watches = cs.watches; watchers = cs.watchers; trail = st.trail ++ added; place = x }) (left.implied.place ∙ place)
 
     -- is the store saturated so far
     pub saturated : IsSaturated level st (with_forced cs after)
     saturated = record {
-      added = left.forced.added;
-      forced = subst (λ f. AreForced f level st.trail left.forced.added) left.literals_are
-          (subst (λ es. AreForced literals level es left.forced.added) entries left.forced.forced);
+      added = left.implied.added;
+      implied = subst (λ f. AreImplied f level st.trail left.implied.added) left.literals_are
+          (subst (λ es. AreImplied literals level es left.implied.added) entries left.implied.implied);
       watches = cs.watches;
       watchers = cs.watchers;
-      rest = new_parts left.forced.added (left.forced.entries ∙ ap (λ es. es ++ left.forced.added) entries);
+      rest = new_parts left.implied.added (left.implied.entries ∙ ap (λ es. es ++ left.implied.added) entries);
       watched = left.is_list.paired ∙ ap length left.clauses ∙ sym sound.watched;
       rearranged = subst (λ f. IsRearranged f (watched_by st) (in_list.watched_by cs)) left.literals_are left.rearranged;
       exact = left.is_list.exact;
@@ -100,12 +100,12 @@ module _ {D N S A H Q : Type 0} {has : Q → N → Bool} {st : Store N S} {loade
   after_saturated {literals = literals} level {after = after} {cs = cs} in_range left entries place = record {
     few = is.few;
     known = is.known;
-    asked = is.asked;
+    queried = is.queried;
     sound = IsSound-saturated level st (with_forced st cs after) in_range is.sound (saturated st is.sound literals level trail after cs left entries place);
-    may_ask = record {
-      in_step = in_step-forced trail after left.forced is.may_ask.in_step;
-      stands = is.may_ask.stands;
-      named = is.may_ask.named;
-      hot = is.may_ask.hot;
+    may_decide = record {
+      in_step = in_step-implied trail after left.implied is.may_decide.in_step;
+      stands = is.may_decide.stands;
+      named = is.may_decide.named;
+      hot = is.may_decide.hot;
     };
   }

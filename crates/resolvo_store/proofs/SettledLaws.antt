@@ -14,7 +14,7 @@ use Rattle.decisions.specs.Literals.{Lit, Pos, Neg, Values, truth, undecided, kn
 use Rattle.clauses.specs.declared.clause.Clause.{Clause}
 use Rattle.clauses.specs.declared.clause.Clause.TheVariants as Kind
 use Rattle.clauses.specs.Clauses.{literals_of, other_literals}
-use Rattle.watch_map.specs.Forcing.{is_false, are_others_false, forces, IsSettled}
+use Rattle.watch_map.specs.Implication.{is_false, are_others_false, is_unit, IsSettled}
 use Rattle.watch_map.specs.Watching.{is_literal_in}
 use Rattle.watch_map.proofs.LiteralLists.{all_at}
 use Rattle.resolvo_queue.specs.declared.requires_clause.RequiresClause.{RequiresClause}
@@ -22,7 +22,7 @@ use Rattle.resolvo_queue.specs.Rows.{Row, list_rows, rows, all_false}
 use Rattle.resolvo_queue.specs.Scan.{parents, clauses_of, scan, are_literals_false, is_falsified}
 use Rattle.resolvo_queue.proofs.Falsified.First.{falsified_by}
 use Rattle.resolvo_queue.proofs.Rows.Occurrences.{same_is}
-use Rattle.resolvo_store.specs.Store.{Store, values, lists_of, kept_literals, clause_literals, condition_of, rows_of}
+use Rattle.resolvo_store.specs.Store.{Store, values, lists_of, stored_of, clause_literals, condition_of, rows_of}
 use Rattle.resolvo_store.specs.Saturating.{HasSettled}
 use Rattle.resolvo_store.specs.Outcome.{falsified_clause}
 use Rattle.resolvo_store.specs.Sound.{IsSound, IsLoaded, requires_from}
@@ -91,7 +91,7 @@ module _ {N S : Type 0} (st : Store N S) (sound : IsSound st) where
 
   -- the literals of a registered clause
   abbrev literals_in : RequiresClause → List Lit
-  literals_in c = Neg c.parent ∷ other_literals (kept_literals st) c.condition c.requirement
+  literals_in c = Neg c.parent ∷ other_literals (stored_of st) c.condition c.requirement
 
   -- they are false where it is falsified
   falsified_is_false : (c : RequiresClause) → is_falsified (values st) (condition_of st) (rows_of st) c ≡ true → is_false (values st) (literals_in c) ≡ true
@@ -102,7 +102,7 @@ module _ {N S : Type 0} (st : Store N S) (sound : IsSound st) where
       let tests = both (known_true (values st c.parent)) (met && gone) (sym (falsified_by (values st) (condition_of st) (rows_of st) c) ∙ f) in
       let two = both met gone tests.1 in
       let listed = sym (rows_false (values st) (sets_of st.provider.universe r) (unwrap_or (lists_of st r) []) (few_lists r)) ∙ two.1 in
-      hold_both (is_false_literal (values st) (Neg c.parent)) (is_false (values st) (other_literals (kept_literals st) c.condition r)) (negation_false (values st c.parent) tests.0)
+      hold_both (is_false_literal (values st) (Neg c.parent)) (is_false (values st) (other_literals (stored_of st) c.condition r)) (negation_false (values st c.parent) tests.0)
       (list_all-append (is_false_literal (values st)) (condition_of st c.condition) (flat_map (map Pos) (unwrap_or (lists_of st r) []))
       ∙ hold_both met (is_false (values st) (flat_map (map Pos) (unwrap_or (lists_of st r) []))) two.0 listed)
 
@@ -124,7 +124,7 @@ module _ {N S : Type 0} (st : Store N S) (sound : IsSound st) where
           let here : slice_get st.clauses id ≡ Some c = ap (slice_get st.clauses) (let e : id ≡ id + 0 = omega arith in e) ∙ same 0 in
           All-cons StandsThere (record { parent = parent; requirement = r; condition = d; clause_id = id }) (requires_from (id + 1) ds) (record {
             there = slice_get_within st.clauses id c here;
-            literals = ap (λ (o : Option (Clause N)). unwrap_or (option_map (literals_of (kept_literals st)) o) []) here;
+            literals = ap (λ (o : Option (Clause N)). unwrap_or (option_map (literals_of (stored_of st)) o) []) here;
           }) (go ds (id + 1) (next c ds id same))
       go (d ∷ ds) id same = go ds (id + 1) (next d ds id same)
 
@@ -146,27 +146,27 @@ module _ {N S : Type 0} (st : Store N S) (sound : IsSound st) where
 
 -- whether a clause of these literals is settled
 abbrev pub is_settled : Values → List Lit → Bool
-is_settled now ls = not (is_false now ls) && list_all (λ l. not (forces now ls l)) ls
+is_settled now ls = not (is_false now ls) && list_all (λ l. not (is_unit now ls l)) ls
 
 -- whether all clauses of a store are
 abbrev pub are_settled : {N S : Type 0} → Store N S → Bool
-are_settled st = list_all (λ c. is_settled (values st) (literals_of (kept_literals st) c)) st.clauses
+are_settled st = list_all (λ c. is_settled (values st) (literals_of (stored_of st) c)) st.clauses
 
 settled_one : (now : Values) (ls : List Lit) → is_settled now ls ≡ true → IsSettled now ls
 settled_one now ls h =
-    let parts = both (not (is_false now ls)) (list_all (λ l. not (forces now ls l)) ls) h in
+    let parts = both (not (is_false now ls)) (list_all (λ l. not (is_unit now ls l)) ls) h in
     (failed (is_false now ls) parts.0, λ l. by_member l (is_literal_in l ls) refl parts.1)
   where
-    by_member : (l : Lit) (b : Bool) → is_literal_in l ls ≡ b → list_all (λ m. not (forces now ls m)) ls ≡ true → forces now ls l ≡ false
-    by_member l true own all = failed (forces now ls l) (all_at (λ m. not (forces now ls m)) ls l all own)
+    by_member : (l : Lit) (b : Bool) → is_literal_in l ls ≡ b → list_all (λ m. not (is_unit now ls m)) ls ≡ true → is_unit now ls l ≡ false
+    by_member l true own all = failed (is_unit now ls l) (all_at (λ m. not (is_unit now ls m)) ls l all own)
     by_member l false own all = ap (λ b. b && (undecided (truth now l) && are_others_false now ls l)) own
 
 -- where the test says so, all clauses are settled
 pub settled_if : {N S : Type 0} (st : Store N S) → are_settled st ≡ true → HasSettled st
 settled_if {N = N} st h c within = go st.clauses c h within
   where
-    go : (cs : List (Clause N)) (i : ℕ) → list_all (λ d. is_settled (values st) (literals_of (kept_literals st) d)) cs ≡ true → i < length cs
-        → IsSettled (values st) (unwrap_or (option_map (literals_of (kept_literals st)) (slice_get cs i)) [])
+    go : (cs : List (Clause N)) (i : ℕ) → list_all (λ d. is_settled (values st) (literals_of (stored_of st) d)) cs ≡ true → i < length cs
+        → IsSettled (values st) (unwrap_or (option_map (literals_of (stored_of st)) (slice_get cs i)) [])
     go [] i all below = absurd (omega (arith, below))
-    go (d ∷ cs) zero all below = settled_one (values st) (literals_of (kept_literals st) d) (both (is_settled (values st) (literals_of (kept_literals st) d)) _ all).0
-    go (d ∷ cs) (suc i) all below = go cs i (both (is_settled (values st) (literals_of (kept_literals st) d)) _ all).1 (omega (arith, below))
+    go (d ∷ cs) zero all below = settled_one (values st) (literals_of (stored_of st) d) (both (is_settled (values st) (literals_of (stored_of st) d)) _ all).0
+    go (d ∷ cs) (suc i) all below = go cs i (both (is_settled (values st) (literals_of (stored_of st) d)) _ all).1 (omega (arith, below))

@@ -5,7 +5,7 @@ use Rattle.providers.specs.declared.requirement.Requirement.{Requirement}
 use Rattle.providers.specs.Provider.{knows_requirement, sets_of}
 use Rattle.variables.specs.Variables.{with_variable, interned_variable, with_variables}
 use Rattle.decisions.specs.Literals.{Lit}
-use Rattle.decisions.specs.Trail.{Entry, propagated, kept_until, HasLevel}
+use Rattle.decisions.specs.Trail.{Entry, propagated, entries_until, HasLevel}
 use Rattle.clauses.specs.ClauseTexts.{IsKnownClause}
 use Rattle.clauses.specs.declared.clause.Clause.{Clause}
 use Rattle.clauses.specs.declared.clause.Clause.TheVariants as Kind
@@ -50,8 +50,8 @@ module _ {N S : Type 0} (st : Store N S) (sound : IsSound st) where
   pub IsSound-assigned : (e : Entry) → IsAssigned st e → HasLevel e → IsSound (record st { trail = assigned (values st e.decision.variable) st.trail e })
   IsSound-assigned e is level = IsSound-stored (stored.IsStored-assigned st (IsStored-sound sound) e is level) sound.tracked
 
-  pub IsSound-kept_until : (l : ℕ) → IsSound (cut_back st (kept_until l st.trail))
-  IsSound-kept_until l = IsSound-stored (stored.IsStored-kept_until st (IsStored-sound sound) l) sound.tracked
+  pub IsSound-entries_until : (l : ℕ) → IsSound (cut_back st (entries_until l st.trail))
+  IsSound-entries_until l = IsSound-stored (stored.IsStored-entries_until st (IsStored-sound sound) l) sound.tracked
 
   pub IsSound-without_newest : IsSound (cut_back st (without_newest st.trail))
   IsSound-without_newest = IsSound-stored (stored.IsStored-without_newest st (IsStored-sound sound)) sound.tracked

@@ -13,7 +13,7 @@ use Rattle.watch_map.specs.Watching.{is_literal_in}
 use Rattle.clauses.specs.ClauseTexts.{IsKnownClause}
 use Rattle.clauses.specs.declared.clause.Clause.TheVariants as Kind
 use Rattle.resolvo_store.specs.Command.{Command, Variable, Helper, Load, Requires, Root, Constrains, ConstrainsExcluded, ConstrainsParent, Lock, Exclude, AnyOf, Learnt, Assign, UndoLast, UndoUntil, Unpropagated, Rewatch, Watchers, Saturate, Decide, Disjunction, AtMostOnce, Bump, Decay, Standard, Reply, TrackedAs, Refused, is_saturate}
-use Rattle.resolvo_store.specs.Store.{Store, Provider, KeptDisjunction, new_store, lists_of, clause_literals, watched_by, candidates_of}
+use Rattle.resolvo_store.specs.Store.{Store, Provider, StoredDisjunction, new_store, lists_of, clause_literals, watched_by, candidates_of}
 use Rattle.resolvo_store.specs.Refusals.{knows_variable, knows_literal, knows_disjunction, is_level, may_rewatch, refusals, first_refusal}
 use Rattle.resolvo_store.specs.Outcome.{Outcome, outcome, load, hands_next, adds_clause, tracking, with_bits, with_tracked}
 use Rattle.resolvo_store.specs.Saturating.{IsSaturated}
@@ -26,7 +26,7 @@ use Rattle.resolvo_store.specs.Sound.{IsSound, AreLiterals, IsLoaded, IsRegister
 use Rattle.resolvo_store.proofs.AddingLemmas.{both, failed, disjunction_known}
 use Rattle.resolvo_store.proofs.RunLemmas.{has_outcome}
 use Rattle.resolvo_store.proofs.SaturatedLaws.{saturated_so_far, saturate_answered, IsSound-saturated}
-use Rattle.resolvo_store.proofs.SoundLaws.{IsSound-with_variable, IsSound-interned, IsSound-added, IsSound-helper, IsSound-requires, IsSound-disjunction, IsSound-learnt, IsSound-scored, IsSound-rewatched, IsSound-assigned, IsSound-without_newest, IsSound-kept_until, IsSound-hands_next}
+use Rattle.resolvo_store.proofs.SoundLaws.{IsSound-with_variable, IsSound-interned, IsSound-added, IsSound-helper, IsSound-requires, IsSound-disjunction, IsSound-learnt, IsSound-scored, IsSound-rewatched, IsSound-assigned, IsSound-without_newest, IsSound-entries_until, IsSound-hands_next}
 use Rattle.resolvo_store.proofs.TrackedLaws.{IsSound-tracked}
 use Rattle.resolvo_store.proofs.KnownLemmas.{IsKnownOrigin, IsLawful, known_direct, literals_below, all_known}
 
@@ -111,7 +111,7 @@ module _ {N S : Type 0} (st : Store N S) (sound : IsSound st) (lawful : IsLawful
       IsSound-assigned st sound (record { decision = record { variable = v; value = value; derived_from = clause }; level = level })
       (record { variable = known; clause = registered }) (low, high)
   IsSound-outcome UndoLast none = IsSound-without_newest st sound
-  IsSound-outcome (UndoUntil level) none = IsSound-kept_until st sound level
+  IsSound-outcome (UndoUntil level) none = IsSound-entries_until st sound level
   IsSound-outcome Unpropagated none = IsSound-hands_next st sound
   IsSound-outcome (Rewatch c from to) none =
       let tests = test_of (Rewatch c from to) none in
@@ -162,7 +162,7 @@ module _ {N S : Type 0} where
     origins_known = All-cons (IsKnownOrigin p.universe) RootOrigin [] refl (All-nil (IsKnownOrigin p.universe));
     clauses_known = All-nil (IsKnownClause p.universe (RootOrigin ∷ []));
     learnt_known = All-nil (AreLiterals (new_store p));
-    disjunctions_known = All-nil (λ (d : KeptDisjunction). AreLiterals (new_store p) d.literals);
+    disjunctions_known = All-nil (λ (d : StoredDisjunction). AreLiterals (new_store p) d.literals);
     one_variable_each = one_variable p;
     loaded_once = none_loaded;
     loaded = All-nil (IsLoaded (new_store p));

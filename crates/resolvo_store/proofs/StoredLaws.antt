@@ -15,7 +15,7 @@ use Rattle.variables.specs.declared.variable_origin.VariableOrigin.TheVariants.{
 use Rattle.variables.specs.Variables.{IsRootFirst, variable_of_solvable, interned_variable, with_variable, with_variables}
 use Rattle.variables.proofs.VariableLemmas.{root-append}
 use Rattle.variables.proofs.InterningLemmas.{variable-kept, longer-all}
-use Rattle.decisions.specs.Trail.{Entry, propagated, kept_until, IsTrail, HasLevel}
+use Rattle.decisions.specs.Trail.{Entry, propagated, entries_until, IsTrail, HasLevel}
 use Rattle.decisions.proofs.TrailLemmas.{IsTrail-push}
 use Rattle.resolvo_queue.specs.declared.requires_clause.RequiresClause.{RequiresClause}
 use Rattle.at_most_once.specs.AtMostOne.{Tracker}
@@ -29,7 +29,7 @@ use Rattle.watch_map.proofs.ListCallerLaws.{watched_at, watching_within, exact_p
 use Rattle.clauses.specs.ClauseTexts.{IsKnownClause}
 use Rattle.clauses.specs.declared.clause.Clause.{Clause}
 use Rattle.clauses.specs.declared.clause.Clause.TheVariants as Kind
-use Rattle.resolvo_store.specs.Store.{Store, values, lists_of, kept_literals, clause_literals, watched_by}
+use Rattle.resolvo_store.specs.Store.{Store, values, lists_of, stored_of, clause_literals, watched_by}
 use Rattle.resolvo_store.specs.Refusals.{knows_helper}
 use Rattle.resolvo_store.specs.Outcome.{assigned, without_newest, helper_origin, cut_back, hands_next, adds_clause}
 use Rattle.resolvo_store.specs.Outcome.{with_disjunction, with_learnt, with_registered, with_rewatched}
@@ -41,7 +41,7 @@ use Rattle.resolvo_store.proofs.WatchLaws.{theirs_rewatched, found_before, asked
 use Rattle.resolvo_store.proofs.WatchLaws.{literals_learnt, literals_listed, literals_asked}
 use Rattle.resolvo_store.proofs.PartLaws.{slice_get-push_cases, All-lists, same_requirement-equivalence, not_among}
 use Rattle.resolvo_store.proofs.PartLaws.{found-push, requires_from-push, AreVariables, AreVariables-with_all}
-use Rattle.resolvo_store.proofs.PartLaws.{interned_all, All-kept_until, IsOnce-kept_until, IsOnce-take}
+use Rattle.resolvo_store.proofs.PartLaws.{interned_all, All-entries_until, IsOnce-entries_until, IsOnce-take}
 
 -- ---- a store with more in it, or less
 
@@ -169,8 +169,8 @@ module _ {N S : Type 0} (st : Store N S) (sound : IsStored st) where
         loaded = All-push (IsLoaded new) st.loaded (r, lists) (All-weaker (IsLoaded st) (IsLoaded new) same st.loaded sound.loaded) (same (r, lists) is);
         registered = sound.registered;
         watched = sound.watched;
-        own = theirs_grown (literals_of (kept_literals st)) (literals_of (kept_literals new))
-            (literals_listed (kept_literals st) (kept_literals new).lists (λ s l h. lists_before st.loaded (r, lists) s l h)) st.clauses st.watches sound.own;
+        own = theirs_grown (literals_of (stored_of st)) (literals_of (stored_of new))
+            (literals_listed (stored_of st) (stored_of new).lists (λ s l h. lists_before st.loaded (r, lists) s l h)) st.clauses st.watches sound.own;
         exact = sound.exact;
         clauses = All-weaker (IsRegistered st) (IsRegistered new)
             (λ c k. record {
@@ -200,11 +200,11 @@ module _ {N S : Type 0} (st : Store N S) (sound : IsStored st) where
         loaded = All-weaker (IsLoaded st) (IsLoaded new) (λ e k. record { one_a_set = k.one_a_set; variables = k.variables }) st.loaded sound.loaded;
         registered = sound.registered;
         watched = sound.watched;
-        own = theirs_grown (literals_of (kept_literals st)) (literals_of (kept_literals new))
-            (λ c l h. subst (λ ds. is_literal_in l (literals_of (record (kept_literals st) { disjunctions = ds }) c) ≡
+        own = theirs_grown (literals_of (stored_of st)) (literals_of (stored_of new))
+            (λ c l h. subst (λ ds. is_literal_in l (literals_of (record (stored_of st) { disjunctions = ds }) c) ≡
             true) (sym (map-append (λ d. d.literals) st.disjunctions
             (record { literals = ls; condition = condition } ∷ [])))
-            (literals_asked (kept_literals st) grown (asked_before (kept_literals st) (ls ∷ [])) c l h)) st.clauses st.watches sound.own;
+            (literals_asked (stored_of st) grown (asked_before (stored_of st) (ls ∷ [])) c l h)) st.clauses st.watches sound.own;
         exact = sound.exact;
         clauses = All-weaker (IsRegistered st) (IsRegistered new) (λ d k.
             record { parent = k.parent; loaded = k.loaded; condition = longer d.condition k.condition })
@@ -249,13 +249,13 @@ module _ {N S : Type 0} (st : Store N S) (sound : IsStored st) where
 
   -- one clause more, with what it watches: registered, if it is a requires clause; learnt clauses keep their literals
   pub IsStored-clause : (c : Clause N) (learnt : List (List Lit)) (more : List RequiresClause)
-      → ((id : ℕ) (l : Lit) → is_literal_in l (learnt_literals (kept_literals st) id) ≡ true →
-      is_literal_in l (learnt_literals (kept_literals (with_learnt_lists learnt)) id) ≡ true)
+      → ((id : ℕ) (l : Lit) → is_literal_in l (learnt_literals (stored_of st) id) ≡ true →
+      is_literal_in l (learnt_literals (stored_of (with_learnt_lists learnt)) id) ≡ true)
       → All (AreLiterals st) learnt → IsKnownClause st.provider.universe st.origins c →
       more ≡ requires_from (length st.clauses) (c ∷ []) → All (IsRegistered st) more
       → IsStored (adds_clause (record st { learnt = learnt; requires = st.requires ++ more }) c).store
   IsStored-clause c learnt more keeps literals known are all =
-      let kept = kept_literals (with_learnt_lists learnt) in
+      let kept = stored_of (with_learnt_lists learnt) in
       let watch : List Lit = two_or_none (first_watches kept (values st) c) in
       let theirs = first_watches_own kept (values st) c in
       let new : Store N S = (adds_clause (record st { learnt = learnt; requires = st.requires ++ more }) c).store in
@@ -274,8 +274,8 @@ module _ {N S : Type 0} (st : Store N S) (sound : IsStored st) where
             sym (requires_from-push 0 (length st.clauses) st.clauses c (omega arith));
         watched = length-append st.watches (watch ∷ []) ∙ ap (λ n. n + 1) sound.watched ∙ sym (length-append st.clauses (c ∷ []));
         own = theirs_pushed (literals_of kept) st.clauses st.watches c watch sound.watched theirs.own
-            (theirs_grown (literals_of (kept_literals st)) (literals_of kept)
-            (literals_learnt (kept_literals st) learnt keeps) st.clauses st.watches sound.own);
+            (theirs_grown (literals_of (stored_of st)) (literals_of kept)
+            (literals_learnt (stored_of st) learnt keeps) st.clauses st.watches sound.own);
         exact = subst (λ n. IsExact (watched_at (st.watches ++ watch ∷ [])) (started n watch st.watchers)) sound.watched
             (exact_pushed st.watches st.watchers watch theirs.two sound.exact);
         clauses = All-append (IsRegistered new) st.requires more (All-weaker (IsRegistered st) (IsRegistered new) same st.requires sound.clauses)
@@ -288,8 +288,8 @@ module _ {N S : Type 0} (st : Store N S) (sound : IsStored st) where
 
   -- one that isn't
   IsStored-plain : (c : Clause N) (learnt : List (List Lit))
-      → ((id : ℕ) (l : Lit) → is_literal_in l (learnt_literals (kept_literals st) id) ≡ true →
-      is_literal_in l (learnt_literals (kept_literals (with_learnt_lists learnt)) id) ≡ true)
+      → ((id : ℕ) (l : Lit) → is_literal_in l (learnt_literals (stored_of st) id) ≡ true →
+      is_literal_in l (learnt_literals (stored_of (with_learnt_lists learnt)) id) ≡ true)
       → All (AreLiterals st) learnt → IsKnownClause st.provider.universe st.origins c → IsUnregistered c →
       IsStored (adds_clause (with_learnt_lists learnt) c).store
   IsStored-plain c learnt keeps literals known unregistered =
@@ -330,7 +330,7 @@ module _ {N S : Type 0} (st : Store N S) (sound : IsStored st) where
         loaded = All-weaker (IsLoaded st) (IsLoaded new) (λ e k. record { one_a_set = k.one_a_set; variables = k.variables }) st.loaded sound.loaded;
         registered = sound.registered;
         watched = length-set st.watches c (rewatched from to (watched_by st c)) ∙ sound.watched;
-        own = theirs_rewatched (literals_of (kept_literals st)) st.clauses st.watches c from to (watching_within st.watches c from watches) has sound.own;
+        own = theirs_rewatched (literals_of (stored_of st)) st.clauses st.watches c from to (watching_within st.watches c from watches) has sound.own;
         exact = exact_rewatched st.watches st.watchers c from to watches other sound.exact;
         clauses = All-weaker (IsRegistered st) (IsRegistered new) (λ d k.
             record { parent = k.parent; loaded = k.loaded; condition = k.condition }) st.requires sound.clauses;
@@ -382,11 +382,11 @@ module _ {N S : Type 0} (st : Store N S) (sound : IsStored st) where
   IsStored-cut_back : (kept : List Entry) → IsTrail kept → All (IsAssigned st) kept → IsStored (cut_back st kept)
   IsStored-cut_back kept trail all = IsStored-trail kept (min st.place (length kept)) trail all (omega arith)
 
-  pub IsStored-kept_until : (l : ℕ) → IsStored (cut_back st (kept_until l st.trail))
-  IsStored-kept_until l =
-      IsStored-cut_back (kept_until l st.trail)
-      (record { once = IsOnce-kept_until l st.trail sound.trail.once; levels = All-kept_until HasLevel l st.trail sound.trail.levels })
-      (All-kept_until (IsAssigned st) l st.trail sound.assigned)
+  pub IsStored-entries_until : (l : ℕ) → IsStored (cut_back st (entries_until l st.trail))
+  IsStored-entries_until l =
+      IsStored-cut_back (entries_until l st.trail)
+      (record { once = IsOnce-entries_until l st.trail sound.trail.once; levels = All-entries_until HasLevel l st.trail sound.trail.levels })
+      (All-entries_until (IsAssigned st) l st.trail sound.assigned)
 
   pub IsStored-without_newest : IsStored (cut_back st (without_newest st.trail))
   IsStored-without_newest =

@@ -4,9 +4,9 @@ use Rattle.std.specs.Prelude.{◌-◌, min, take, nat_lt}
 use Rattle.std.specs.List.{list_all}
 use Rattle.std.proofs.lemmas.List.{length-map, length-append, take-append-le, take-map, map-append, append-nil, append_assoc}
 use Rattle.decisions.specs.Literals.{Lit}
-use Rattle.decisions.specs.Trail.{Entry, Trail, pushed, cut_to, undo_last, undo_until, kept_until, propagated, floor_taken}
+use Rattle.decisions.specs.Trail.{Entry, Trail, pushed, cut_to, undo_last, undo_until, entries_until, propagated, floor_taken}
 use Rattle.decisions.specs.declared.decision.Decision.{Decision}
-use Rattle.watch_map.specs.Saturation.{HasForced}
+use Rattle.watch_map.specs.Saturation.{HasImplied}
 use Rattle.resolvo_queue.specs.Queue.{Queue, IsNew, SameSync, IsUnchanged, IsRegistered, HasTrail, AgreesBelow}
 use Rattle.resolvo_queue.specs.declared.requires_clause.RequiresClause.{RequiresClause}
 use Rattle.resolvo_store.specs.Synced.{decisions_of, IsInStep}
@@ -25,10 +25,10 @@ take_front (suc i) (suc j) [] h = refl
 take_front (suc i) (suc j) (x ∷ xs) h = ap (λ ys. x ∷ ys) (take_front i j xs (omega (arith, h)))
 
 -- what is kept of a trail is its front
-pub kept_front : (l : ℕ) (es : List Entry) → kept_until l es ≡ take (length (kept_until l es)) es
+pub kept_front : (l : ℕ) (es : List Entry) → entries_until l es ≡ take (length (entries_until l es)) es
 kept_front l [] = refl
 kept_front l (e ∷ es) =
-    elim (list_all (λ x. nat_lt l x.level) (e ∷ es)) as (λ b. cond b [] (e ∷ kept_until l es) ≡ take (length (cond b [] (e ∷ kept_until l es))) (e ∷ es))
+    elim (list_all (λ x. nat_lt l x.level) (e ∷ es)) as (λ b. cond b [] (e ∷ entries_until l es) ≡ take (length (cond b [] (e ∷ entries_until l es))) (e ∷ es))
     [ true ↦ refl | false ↦ ap (λ ys. e ∷ ys) (kept_front l es) ]
 
 -- two lists that are the same at first are, where either is cut
@@ -55,7 +55,7 @@ module _ {N H : Type 0} {q : Queue N H} where
   in_step-undo_last t is = in_step_front t (length t.entries - 1) refl is
 
   pub in_step-undo_until : (l : ℕ) (t : Trail) → IsInStep q t → IsInStep q (undo_until l t)
-  in_step-undo_until l t is = in_step_front t (length (kept_until l t.entries)) (kept_front l t.entries) is
+  in_step-undo_until l t is = in_step_front t (length (entries_until l t.entries)) (kept_front l t.entries) is
 
   pub in_step-pushed : (t : Trail) (e : Entry) → IsInStep q t → IsInStep q (pushed t e)
   in_step-pushed t e is =
@@ -74,11 +74,11 @@ module _ {N H : Type 0} {q : Queue N H} where
       subst (λ es. IsInStep q (record t { entries = es })) (append_assoc t.entries (e ∷ []) added) (in_step-more (pushed t e) added (in_step-pushed t e is))
 
   -- those that clauses force
-  pub in_step-forced : {literals : ℕ → List Lit} {level : ℕ} (t new : Trail) → HasForced literals level t new → IsInStep q t → IsInStep q new
-  in_step-forced t new forced is =
-      let more = in_step-more t forced.added is in
-      subst (λ es. IsInStep q (record new { entries = es })) (sym forced.entries)
-      (subst (λ n. IsInStep q (record new { entries = t.entries ++ forced.added; floor = n })) (sym forced.floor) (record { within = more.within; agrees = more.agrees }))
+  pub in_step-implied : {literals : ℕ → List Lit} {level : ℕ} (t new : Trail) → HasImplied literals level t new → IsInStep q t → IsInStep q new
+  in_step-implied t new implied is =
+      let more = in_step-more t implied.added is in
+      subst (λ es. IsInStep q (record new { entries = es })) (sym implied.entries)
+      (subst (λ n. IsInStep q (record new { entries = t.entries ++ implied.added; floor = n })) (sym implied.floor) (record { within = more.within; agrees = more.agrees }))
 
   pub in_step-propagated : (t : Trail) → IsInStep q t → IsInStep q (propagated t)
   in_step-propagated t is = record { within = is.within; agrees = is.agrees }

@@ -11,15 +11,15 @@ use Rattle.decisions.specs.Literals.{Lit, Pos, Neg, Values, truth, undecided, kn
 use Rattle.clauses.specs.declared.clause.Clause.{Clause}
 use Rattle.clauses.specs.declared.clause.Clause.TheVariants as Kind
 use Rattle.clauses.specs.Clauses.{same_literal, literals_of}
-use Rattle.watch_map.specs.Forcing.{is_false, are_others_false, IsSettled}
+use Rattle.watch_map.specs.Implication.{is_false, are_others_false, IsSettled}
 use Rattle.watch_map.specs.Watching.{is_literal_in}
 use Rattle.watch_map.proofs.LiteralLists.{any_at}
 use Rattle.watch_map.proofs.WatchingLaws.{same_is, same_self}
 use Rattle.resolvo_queue.specs.declared.requires_clause.RequiresClause.{RequiresClause}
 use Rattle.resolvo_queue.specs.Rows.{list_rows, rows, has_true_row}
 use Rattle.resolvo_queue.specs.Scan.{are_literals_false}
-use Rattle.resolvo_store.specs.Store.{Store, values, lists_of, kept_literals, condition_of, rows_of}
-use Rattle.resolvo_store.specs.ForbidsTwo.{is_true_literal, is_met}
+use Rattle.resolvo_store.specs.Store.{Store, values, lists_of, stored_of, condition_of, rows_of}
+use Rattle.resolvo_store.specs.ForbidsTwo.{is_true_literal, is_satisfied}
 use Rattle.resolvo_store.specs.Models.{IsModel, true_alone, is_negation, MayLeaveFalse}
 use Rattle.resolvo_store.specs.Saturating.{HasSettled}
 use Rattle.resolvo_store.specs.Solved.{IsSolved}
@@ -185,10 +185,10 @@ module _ {N S : Type 0} (st : Store N S) (sound : IsSound st) (settled : HasSett
           (list_any-append (true_now now) condition candidates ∙ by_condition (are_literals_false now condition) refl (negation_denied (now c.parent) f))
 
   abbrev IsMetClause : Clause N → Type 0
-  IsMetClause c = is_met st (true_alone now) c ≡ true
+  IsMetClause c = is_satisfied st (true_alone now) c ≡ true
 
   -- a clause of another kind is met where it is settled
-  other_met : (c : Clause N) → requires_from 0 (c ∷ []) ≡ [] → IsSettled now (literals_of (kept_literals st) c) → MayLeaveFalse st c → IsMetClause c
+  other_met : (c : Clause N) → requires_from 0 (c ∷ []) ≡ [] → IsSettled now (literals_of (stored_of st) c) → MayLeaveFalse st c → IsMetClause c
   other_met Kind.InstallRoot other s n = one_met now (Pos 0) s
   other_met (Kind.Requires parent d r) other s n = cc
   other_met (Kind.ForbidMultipleInstances a l name) other s n = two_met now a l s
@@ -205,7 +205,7 @@ module _ {N S : Type 0} (st : Store N S) (sound : IsSound st) (settled : HasSett
   trail_is_model negated = go st.clauses 0 negated (subst (λ cs. All IsServed cs) sound.registered solved) settled
     where
       go : (cs : List (Clause N)) (id : ℕ) → All (MayLeaveFalse st) cs → All IsServed (requires_from id cs)
-          → ((i : ℕ) → i < length cs → IsSettled now (unwrap_or (option_map (literals_of (kept_literals st)) (slice_get cs i)) [])) → All IsMetClause cs
+          → ((i : ℕ) → i < length cs → IsSettled now (unwrap_or (option_map (literals_of (stored_of st)) (slice_get cs i)) [])) → All IsMetClause cs
       go [] id negated served settled = All-nil IsMetClause
       go (Kind.Requires parent d r ∷ cs) id negated served settled =
           let c : RequiresClause = record { parent = parent; requirement = r; condition = d; clause_id = id } in

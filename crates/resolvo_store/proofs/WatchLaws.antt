@@ -11,7 +11,7 @@ use Rattle.providers.specs.Requirement.{same_requirement}
 use Rattle.decisions.specs.Literals.{Lit, Pos, Neg, Values}
 use Rattle.clauses.specs.declared.clause.Clause.{Clause}
 use Rattle.clauses.specs.declared.clause.Clause.TheVariants as Kind
-use Rattle.clauses.specs.Clauses.{Kept, literals_of, learnt_literals, condition_literals, first_watches, same_literal}
+use Rattle.clauses.specs.Clauses.{StoredLiterals, literals_of, learnt_literals, condition_literals, first_watches, same_literal}
 use Rattle.clauses.specs.Laws.{AreTwoOf}
 use Rattle.clauses.proofs.CallerLaws.{first_watches_are_two}
 use Rattle.watch_map.specs.Watching.{is_literal_in, AreTwoOrNone}
@@ -48,10 +48,10 @@ two_of literals (Some watched) are = subst (WatchesOwn literals) (sym are.2) (re
         by_first false e k = by_second (same_literal l are.1) refl k
 
 -- a new clause watches two different ones of its literals, or none
-pub first_watches_own : {N : Type 0} (k : Kept) (now : Values) (c : Clause N) → WatchesOwn (literals_of k c) (two_or_none (first_watches k now c))
+pub first_watches_own : {N : Type 0} (k : StoredLiterals) (now : Values) (c : Clause N) → WatchesOwn (literals_of k c) (two_or_none (first_watches k now c))
 first_watches_own {N} k now c = two_of (literals_of k c) (first_watches k now c) (first_watches_are_two N k now c)
 
-pub two_if_first : {N : Type 0} (k : Kept) (now : Values) (c : Clause N) {watch : Option (List Lit)} → watch ≡ first_watches k now c → AreTwoOrNone (two_or_none watch)
+pub two_if_first : {N : Type 0} (k : StoredLiterals) (now : Values) (c : Clause N) {watch : Option (List Lit)} → watch ≡ first_watches k now c → AreTwoOrNone (two_or_none watch)
 two_if_first k now c watches = subst (λ w. AreTwoOrNone (two_or_none w)) (sym watches) (first_watches_own k now c).two
 
 -- ---- moved watches
@@ -154,7 +154,7 @@ found_before (x ∷ ls) more zero l h = h
 found_before (x ∷ ls) more (suc id) l h = found_before ls more id l h
 
 -- the same of the literals of a disjunction
-pub asked_before : (k : Kept) (more : List (List Lit)) (d : Option ℕ) (l : Lit) → is_literal_in l (condition_literals k d) ≡ true
+pub asked_before : (k : StoredLiterals) (more : List (List Lit)) (d : Option ℕ) (l : Lit) → is_literal_in l (condition_literals k d) ≡ true
     → is_literal_in l (condition_literals (record k { disjunctions = k.disjunctions ++ more }) d) ≡ true
 asked_before k more None l h = h
 asked_before k more (Some d) l h = found_before k.disjunctions more d l h
@@ -169,7 +169,7 @@ lists_before (d ∷ es) e r l h =
     → is_literal_in l (flat_map (map Pos) (unwrap_or (cond b (Some d.1) (lookup (same_requirement r) (es ++ e ∷ []))) [])) ≡ true)
     [ true ↦ λ k. k | false ↦ λ k. lists_before es e r l k ]) h
 
-module _ {N : Type 0} (k : Kept) where
+module _ {N : Type 0} (k : StoredLiterals) where
   -- with more learnt clauses
   pub literals_learnt : (learnt : List (List Lit)) → ((id : ℕ) (l : Lit) → is_literal_in l (learnt_literals k id) ≡ true → is_literal_in l (unwrap_or (slice_get learnt id) []) ≡ true)
       → (c : Clause N) (l : Lit) → is_literal_in l (literals_of k c) ≡ true → is_literal_in l (literals_of (record k { learnt = learnt }) c) ≡ true

@@ -52,6 +52,6 @@ module _ {N S : Type 0} where
   names_known universe variables (Kind.AnyOf selected other) = nat_lt selected variables && nat_lt other variables
   names_known universe variables _ = false
 
--- one clause more is kept, with what it watches
+-- one clause more is stored, with what it watches
 abbrev pub HasMore : {N : Type 0} → Clauses N → Clause N → Option WatchedLiterals → Clauses N → Type 0
 HasMore old clause watches new = new ≡ with_clause old clause (literals_watched watches)

@@ -51,15 +51,15 @@ pub record Counting : Type 0 where
 
 -- the clauses are counted, and false is what the counted entries of the trail make false, whatever s says is. A are the
 -- allocators
-pub record Follows {A : Type 0} (kept : Counting) (entries : List Entry) (s : Counted A) : Type 0 where
-  pub within : kept.counted ≤ length entries
-  pub counts : Counts kept.clauses (record s { is_false = false_by (take kept.counted entries) })
+pub record Follows {A : Type 0} (state : Counting) (entries : List Entry) (s : Counted A) : Type 0 where
+  pub within : state.counted ≤ length entries
+  pub counts : Counts state.clauses (record s { is_false = false_by (take state.counted entries) })
 
 module _ (A : Type 0) where
   -- no clause is counted, whatever is false
   abbrev pub CountsNothing : KeyedCounters → Type 0
-  CountsNothing kept = (lists : Lists A) (disjunctions : List (Disjunction A)) (is_false : Lit → Bool) →
-      Counts kept (counted lists disjunctions [] is_false)
+  CountsNothing state = (lists : Lists A) (disjunctions : List (Disjunction A)) (is_false : Lit → Bool) →
+      Counts state (counted lists disjunctions [] is_false)
 
   -- what is followed under one trail is followed under another
   abbrev pub FollowsOn : Counting → Trail → Counting → Trail → Type 0
@@ -74,7 +74,7 @@ module _ (A : Type 0) where
 module _ {A : Type 0} (lists : Lists A) (disjunctions : List (Disjunction A)) (now : Trail) where
   -- these clauses are followed
   abbrev pub FollowsClauses : Counting → List PlacedDemand → Type 0
-  FollowsClauses kept clauses = Follows kept now.entries (counted lists disjunctions clauses no_false)
+  FollowsClauses state clauses = Follows state now.entries (counted lists disjunctions clauses no_false)
 
   -- the clauses that were followed are
   abbrev pub StillFollows : Counting → Counting → Type 0
@@ -95,7 +95,7 @@ pub record IsThere {A : Type 0} (loaded : Lists A) (disjunctions : List (Disjunc
   pub disjunction : IfSome c.condition (λ d. d < length disjunctions)
 
 -- of these clauses and this trail the first ones are counted
-pub record AreCounted {A : Type 0} (kept : Counting) (requires : List RequiresClause) (entries : List Entry)
+pub record AreCounted {A : Type 0} (state : Counting) (requires : List RequiresClause) (entries : List Entry)
     (lists : Lists A) (disjunctions : List (Disjunction A)) : Type 0 where
-  pub known : kept.known ≤ length requires
-  pub follows : Follows kept entries (counted lists disjunctions (take kept.known (placed requires)) no_false)
+  pub known : state.known ≤ length requires
+  pub follows : Follows state entries (counted lists disjunctions (take state.known (placed requires)) no_false)

@@ -6,7 +6,7 @@ use Rattle.clauses.specs.declared.clause.Clause.{Clause}
 use Rattle.clauses.specs.declared.clause.Clause.TheVariants.{ForbidMultipleInstances}
 use Rattle.clauses.specs.Clauses.{literals_of}
 use Rattle.at_most_once.specs.AtMostOne.{SaysAtMostOne}
-use Rattle.resolvo_store.specs.Store.{Store, kept_literals}
+use Rattle.resolvo_store.specs.Store.{Store, stored_of}
 
 -- a literal is true under truth values of the variables
 abbrev pub is_true_literal : (ℕ → Bool) → Lit → Bool
@@ -19,9 +19,9 @@ is_forbidding named (ForbidMultipleInstances x l n) = named n
 is_forbidding named _ = false
 
 module _ {N S : Type 0} (st : Store N S) where
-  -- one of its literals is true
-  abbrev pub is_met : (ℕ → Bool) → Clause N → Bool
-  is_met a c = list_any (is_true_literal a) (literals_of (kept_literals st) c)
+  -- the clause is satisfied: one of its literals is true
+  abbrev pub is_satisfied : (ℕ → Bool) → Clause N → Bool
+  is_satisfied a c = list_any (is_true_literal a) (literals_of (stored_of st) c)
 
   -- the clauses that forbid several variables of the name
   abbrev pub clauses_of_name : N → List (Clause N)
@@ -29,4 +29,4 @@ module _ {N S : Type 0} (st : Store N S) where
 
   -- they say that of the variables that are tracked under the name at most one is true
   abbrev pub ForbidsTwo : N → Type 0
-  ForbidsTwo name = SaysAtMostOne nat_eq is_met (st.trackers name) (clauses_of_name name)
+  ForbidsTwo name = SaysAtMostOne nat_eq is_satisfied (st.trackers name) (clauses_of_name name)

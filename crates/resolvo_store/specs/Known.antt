@@ -7,7 +7,7 @@ use Rattle.providers.specs.Provider.{Universe, knows_requirement}
 use Rattle.variables.specs.declared.variable_origin.VariableOrigin.{VariableOrigin}
 use Rattle.decisions.specs.Literals.{Lit, variable_of}
 use Rattle.clauses.specs.Clauses.{literals_of}
-use Rattle.clauses.specs.Stored.{kept_in}
+use Rattle.clauses.specs.Stored.{stored_in}
 use Rattle.clauses.specs.declared.disjunction.Disjunction.{Disjunction}
 use Rattle.falsified_clauses.specs.Clauses.{Lists}
 use Rattle.falsified_clauses.specs.declared.demand.Demand.{Demand}
@@ -41,5 +41,5 @@ module _ {N S : Type 0} where
 -- the literal is one of the clause's, which refers to these lists and disjunctions
 abbrev pub has_literal : {N A : Type 0} → Clauses N → Lists A → List (Disjunction A) → ℕ → Lit → Bool
 has_literal clauses lists disjunctions clause literal =
-    let kept = record (kept_in [] lists disjunctions) { learnt = clauses.learnt } in
-    is_literal_in literal (unwrap_or (option_map (literals_of kept) (slice_get clauses.clauses clause)) [])
+    let stored = record (stored_in [] lists disjunctions) { learnt = clauses.learnt } in
+    is_literal_in literal (unwrap_or (option_map (literals_of stored) (slice_get clauses.clauses clause)) [])

@@ -1,13 +1,13 @@
 pub mod Adding
 pub mod Answers
-pub mod Asked
+pub mod QueueState
 pub mod Command
 pub mod CommandLaws
 pub mod Counted
 pub mod Deciding
 pub mod ForbidsTwo
 pub mod Helpers
-pub mod Keeping
+pub mod Growth
 pub mod Known
 pub mod Lists
 pub mod LoadRefusals

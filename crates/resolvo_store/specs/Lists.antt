@@ -1,4 +1,4 @@
--- Lists of variables as they are kept, and what is true of what a store keeps.
+-- Lists of variables as they are stored, and what is true of the state of a store.
 use Rattle.std.specs.Prelude.{◌≡◌, ℕ, ◌-◌, ◌^◌, Bool, true, List, [], ◌∷◌, ◌++◌, length, map, Option, All}
 use Rattle.std.specs.Map.{lookup}
 use Rattle.std.specs.declared.vec.Vec.{Vec}
@@ -16,37 +16,38 @@ use Rattle.resolvo_queue.specs.Queue.{Queue}
 use Rattle.resolvo_queue.specs.References.{references}
 use Rattle.resolvo_queue.specs.Rows.{AreFew}
 use Rattle.resolvo_store.specs.Counted.{AreCounted, Counting}
-use Rattle.resolvo_store.specs.Synced.{MayAsk}
+use Rattle.resolvo_store.specs.Synced.{MayDecide}
 use Rattle.resolvo_store.specs.Sound.{IsSound}
-use Rattle.resolvo_store.specs.Store.{Store, Provider, KeptDisjunction, clause_literals, watched_by}
-use Rattle.solver_cache.specs.Cache.{Cache, is_set_asked}
+use Rattle.resolvo_store.specs.Store.{Store, Provider, StoredDisjunction, clause_literals, watched_by}
+use Rattle.solver_cache.specs.Cache.{Cache, is_set_queried}
 
 -- the lists in a vector of vectors
 abbrev pub items_of : {A : Type 0} → Vec (Vec ℕ A) A → List (List ℕ)
 items_of lists = map (λ l. l.items) lists.items
 
--- the requirements with the lists that are kept for them
-abbrev pub lists_kept : {A : Type 0} → List (Requirement × Vec (Vec ℕ A) A) → List (Requirement × List (List ℕ))
-lists_kept loaded = map (λ e. (e.0, map (λ l. l.items) e.1.items)) loaded
+-- the requirements with the lists that are stored for them
+abbrev pub lists_of_loaded : {A : Type 0} → List (Requirement × Vec (Vec ℕ A) A) → List (Requirement × List (List ℕ))
+lists_of_loaded loaded = map (λ e. (e.0, map (λ l. l.items) e.1.items)) loaded
 
--- the lists that are kept for a requirement, if there are any
-abbrev pub kept_for : {A : Type 0} → Requirement → List (Requirement × Vec (Vec ℕ A) A) → Option (List (List ℕ))
-kept_for r loaded = lookup (same_requirement r) (lists_kept loaded)
+-- the lists that are stored for a requirement, if there are any
+abbrev pub lists_for : {A : Type 0} → Requirement → List (Requirement × Vec (Vec ℕ A) A) → Option (List (List ℕ))
+lists_for r loaded = lookup (same_requirement r) (lists_of_loaded loaded)
 
--- the disjunctions that are kept
-abbrev pub disjunctions_kept : {A : Type 0} → List (Disjunction A) → List KeptDisjunction
-disjunctions_kept disjunctions = map (λ d. record { literals = d.literals.items; condition = d.condition }) disjunctions
+-- the disjunctions that are stored
+abbrev pub stored_disjunctions : {A : Type 0} → List (Disjunction A) → List StoredDisjunction
+stored_disjunctions disjunctions =
+    map (λ d. record { literals = d.literals.items; condition = d.condition }) disjunctions
 
 -- no id is left for one more
 abbrev pub are_disjunctions_full : {A : Type 0} → List (Disjunction A) → Bool
-are_disjunctions_full disjunctions = are_ids_out (2 ^ 32 - 1) (length (disjunctions_kept disjunctions))
+are_disjunctions_full disjunctions = are_ids_out (2 ^ 32 - 1) (length (stored_disjunctions disjunctions))
 
--- one more is kept: these literals, of the condition
-abbrev pub KeepsMore : {A : Type 0} → List Lit → ℕ → List (Disjunction A) → List (Disjunction A) → Type 0
-KeepsMore literals condition old new =
-    disjunctions_kept new ≡ disjunctions_kept old ++ record { literals = literals; condition = condition } ∷ []
+-- one more is stored: these literals, of the condition
+abbrev pub StoresMore : {A : Type 0} → List Lit → ℕ → List (Disjunction A) → List (Disjunction A) → Type 0
+StoresMore literals condition old new =
+    stored_disjunctions new ≡ stored_disjunctions old ++ record { literals = literals; condition = condition } ∷ []
 
--- one disjunction more is kept
+-- one disjunction more is stored
 pub record IsOneMore {A : Type 0} (old new : List (Disjunction A)) : Type 0 where
   pub disjunction : Disjunction A
   pub grown : new ≡ old ++ disjunction ∷ []
@@ -55,22 +56,22 @@ pub record IsOneMore {A : Type 0} (old new : List (Disjunction A)) : Type 0 wher
 abbrev pub AreKnown : {N S : Type 0} → Universe N S → List RequiresClause → Type 0
 AreKnown universe requires = All (λ c. knows_requirement universe c.requirement ≡ true) requires
 
--- the packages of the version sets of loaded requirements were asked for
-abbrev pub AreAsked : {D N S A H : Type 0} → Provider N S → Cache D N S A H →
+-- the packages of the version sets of loaded requirements were queried
+abbrev pub AreQueried : {D N S A H : Type 0} → Provider N S → Cache D N S A H →
     List (Requirement × List (List ℕ)) → Type 0
-AreAsked p cache loaded = All (λ e. All (λ v. is_set_asked p cache v ≡ true) (sets_of p.universe e.0)) loaded
+AreQueried p cache loaded = All (λ e. All (λ v. is_set_queried p cache v ≡ true) (sets_of p.universe e.0)) loaded
 
--- what is kept is in order: it can be asked for decisions, with few rows for each requirement, and clauses of known
--- requirements alone; the store is one that commands can make; what was loaded came through the cache; and the queue
--- may be asked, whose clauses stand on these lists and disjunctions
+-- the state is consistent: it can decide, with few rows for each requirement, and clauses of known requirements alone;
+-- the store is one that commands can make; what was loaded came through the cache; and the queue may decide, whose
+-- clauses stand on these lists and disjunctions
 pub record IsConsistent {D N S A H Q : Type 0} (has : Q → N → Bool) (st : Store N S)
     (loaded : List (Requirement × Vec (Vec ℕ A) A)) (disjunctions : List (Disjunction A))
     (cache : Cache D N S A H) (queue : Queue N Q) (trail : Trail) : Type 0 where
   pub few : AreFew loaded
   pub known : AreKnown st.provider.universe st.requires
   pub sound : IsSound st
-  pub asked : AreAsked st.provider cache st.loaded
-  pub may_ask : MayAsk has st.scores (references st.provider.universe loaded disjunctions) queue trail
+  pub queried : AreQueried st.provider cache st.loaded
+  pub may_decide : MayDecide has st.scores (references st.provider.universe loaded disjunctions) queue trail
 
 -- these are marks of the store's trail, over its clauses
 abbrev pub HasMarks : {N S : Type 0} → Store N S → List Mark → Type 0

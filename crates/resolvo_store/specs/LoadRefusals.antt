@@ -4,8 +4,8 @@ use Rattle.typed_ids.specs.Refusals.{IsGrowthRefusal}
 use Rattle.typed_ids.specs.declared.error.StoreError.{StoreError}
 use Rattle.typed_ids.specs.declared.error.StoreError.TheVariants.{Cancelled}
 
--- the provider asked to stop, which it is asked only where not all packages were asked for; or ids are lacking; or
--- memory was refused
-abbrev pub IsLoadRefusal : (asked lacks : Bool) → StoreError → Type 0
-IsLoadRefusal asked lacks Cancelled = asked ≡ false
-IsLoadRefusal asked lacks e = IsGrowthRefusal lacks e
+-- the provider cancelled, which is possible only where not all packages were queried; or ids are lacking; or memory was
+-- refused
+abbrev pub IsLoadRefusal : (queried lacks : Bool) → StoreError → Type 0
+IsLoadRefusal queried lacks Cancelled = queried ≡ false
+IsLoadRefusal queried lacks e = IsGrowthRefusal lacks e

@@ -9,7 +9,7 @@ use Rattle.providers.specs.declared.requirement.Requirement.{Requirement}
 use Rattle.providers.specs.Provider.{sets_of}
 use Rattle.variables.specs.declared.variable_origin.VariableOrigin.{VariableOrigin}
 use Rattle.variables.specs.Variables.{interned_variable, with_variables, lacks_variables, IsPartlyInterned}
-use Rattle.solver_cache.specs.Cache.{Cache, is_set_asked, sorted_of_set, sorted_of}
+use Rattle.solver_cache.specs.Cache.{Cache, is_set_queried, sorted_of_set, sorted_of}
 use Rattle.solver_cache.specs.Functions.{Provider}
 use Rattle.solver_cache.specs.Questions.{lacks_candidates}
 use Rattle.resolvo_store.specs.LoadRefusals.{IsLoadRefusal}
@@ -50,13 +50,13 @@ module _ {N S : Type 0} (p : Provider N S) (r : Requirement) where
   abbrev pub VariablesFit : List (VariableOrigin N S) → Type 0
   VariablesFit origins = lacks_variables p.same_solvable p.is_large_solvable origins (sorted_of p r) ≡ false
 
-  -- its packages were asked for
-  abbrev pub WasAsked : {D A H : Type 0} → Cache D N S A H → Type 0
-  WasAsked cache = All (λ v. is_set_asked p cache v ≡ true) (sets_of p.universe r)
+  -- its packages were queried
+  abbrev pub WasQueried : {D A H : Type 0} → Cache D N S A H → Type 0
+  WasQueried cache = All (λ v. is_set_queried p cache v ≡ true) (sets_of p.universe r)
 
   -- why a load of it may be refused, by the cache before and after
   abbrev pub RefusesLoad : {D A H : Type 0} → Cache D N S A H → Cache D N S A H → List (VariableOrigin N S) →
       StoreError → Type 0
-  RefusesLoad old new origins e = IsLoadRefusal (list_all (is_set_asked p old) (sets_of p.universe r))
-      (list_any (λ v. not (is_set_asked p old v) && lacks_candidates p new (p.universe.set_name v))
+  RefusesLoad old new origins e = IsLoadRefusal (list_all (is_set_queried p old) (sets_of p.universe r))
+      (list_any (λ v. not (is_set_queried p old v) && lacks_candidates p new (p.universe.set_name v))
       (sets_of p.universe r) || lacks_rows p.same_solvable p.is_large_solvable origins (sorted_of p r)) e

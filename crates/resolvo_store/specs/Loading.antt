@@ -8,7 +8,7 @@ use Rattle.resolvo_store.specs.Command.{Load, LoadedAs, Refused}
 use Rattle.resolvo_store.specs.Lists.{items_of}
 use Rattle.resolvo_store.specs.Outcome.{origins_loaded, variables_loaded}
 use Rattle.resolvo_store.specs.Step.{Step, IsAnswered}
-use Rattle.resolvo_store.specs.Store.{Store, Kept, lists_of}
+use Rattle.resolvo_store.specs.Store.{Store, StoreState, lists_of}
 
 module _ {N S : Type 0} (st : Store N S) (r : Requirement) where
   -- these are the lists that are kept for it
@@ -40,8 +40,8 @@ module _ {N S : Type 0} (st : Store N S) (r : Requirement) where
   AreCopied copied lists = IsTrue copied → items_of lists ≡ variables_loaded st r
 
   -- what is kept, with the variables of its candidates and their lists
-  abbrev pub with_loaded : {D C : Type 0} → Kept D N S C → Kept D N S C
-  with_loaded kept = record kept {
+  abbrev pub with_loaded : {D C : Type 0} → StoreState D N S C → StoreState D N S C
+  with_loaded state = record state {
     origins = origins_loaded st r;
-    loaded = kept.loaded ++ (r, variables_loaded st r) ∷ [];
+    loaded = state.loaded ++ (r, variables_loaded st r) ∷ [];
   }

@@ -10,7 +10,7 @@ use Rattle.variables.specs.declared.variable_origin.VariableOrigin.TheVariants.{
 use Rattle.variables.specs.Variables.{with_variable, interned_variable, with_variables}
 use Rattle.decisions.specs.declared.decision.Decision.{Decision}
 use Rattle.decisions.specs.Literals.{Lit}
-use Rattle.decisions.specs.Trail.{Entry, newest, top_level, kept_until}
+use Rattle.decisions.specs.Trail.{Entry, newest, top_level, entries_until}
 use Rattle.clauses.specs.declared.clause.Clause.{Clause}
 use Rattle.clauses.specs.declared.clause.Clause.TheVariants as Kind
 use Rattle.clauses.specs.Clauses.{first_watches, is_conflict}
@@ -32,7 +32,7 @@ use Rattle.resolvo_store.specs.Command.{Decide, Disjunction, AtMostOnce, Bump, D
 use Rattle.resolvo_store.specs.Command.{LoadedAs, DisjunctionIs, ClauseIs, TrackedAs, Assigned, Already, Clash}
 use Rattle.resolvo_store.specs.Command.{Undone, Next, Done, WatchersAre, Decided, NoDecision, Falsified}
 use Rattle.resolvo_store.specs.Tracking.{forbidding, next_helper, origins_with}
-use Rattle.resolvo_store.specs.Store.{Store, values, lists_of, kept_literals, condition_of}
+use Rattle.resolvo_store.specs.Store.{Store, values, lists_of, stored_of, condition_of}
 use Rattle.resolvo_store.specs.Store.{watched_by, rows_of, score_of, candidates_of, all_candidates}
 
 -- a reply, and the store after it
@@ -91,7 +91,7 @@ module _ {N S : Type 0} where
 
   -- what a new clause watches: two literals, or none
   abbrev pub new_watches : Store N S → Clause N → List Lit
-  new_watches st c = two_or_none (first_watches (kept_literals st) (values st) c)
+  new_watches st c = two_or_none (first_watches (stored_of st) (values st) c)
 
   -- the store that has one more clause, which watches these and stands at the front of their lists
   abbrev pub with_clause : Store N S → Clause N → List Lit → Store N S
@@ -104,7 +104,7 @@ module _ {N S : Type 0} where
   -- a new clause's reply, and the store that has it with its first watches
   abbrev pub adds_clause : Store N S → Clause N → Outcome N S
   adds_clause st c = record {
-    reply = ClauseIs (length st.clauses) (is_conflict (kept_literals st) (values st) c);
+    reply = ClauseIs (length st.clauses) (is_conflict (stored_of st) (values st) c);
     store = with_clause st c (new_watches st c);
   }
 
@@ -218,7 +218,7 @@ module _ {N S : Type 0} where
     };
   }
   outcome st UndoLast = record { reply = Undone (undone st.trail); store = cut_back st (without_newest st.trail) }
-  outcome st (UndoUntil level) = record { reply = Undone None; store = cut_back st (kept_until level st.trail) }
+  outcome st (UndoUntil level) = record { reply = Undone None; store = cut_back st (entries_until level st.trail) }
   outcome st Unpropagated = hands_next st (slice_get st.trail st.place)
   outcome st (Rewatch c from to) = record { reply = Done; store = with_rewatched st c from to }
   outcome st (Watchers l) = record { reply = WatchersAre (st.watchers l); store = st }

@@ -8,13 +8,13 @@ use Rattle.providers.specs.Texts.{Texts, IsAppended}
 use Rattle.decisions.specs.Literals.{Lit}
 use Rattle.clauses.specs.Clauses.{literals_of}
 use Rattle.clauses.specs.ClauseTexts.{clause_text}
-use Rattle.resolvo_store.specs.Store.{Store, kept_literals}
+use Rattle.resolvo_store.specs.Store.{Store, stored_of}
 
 module _ {N S : Type 0} (st : Store N S) (clause : ℕ) where
   -- these are its literals; none are found of an unknown one
   abbrev pub HasLiterals : {A : Type 0} → Option (Vec Lit A) → Type 0
   HasLiterals found = option_map (λ literals. literals.items) found ≡
-      option_map (literals_of (kept_literals st)) (slice_get st.clauses clause)
+      option_map (literals_of (stored_of st)) (slice_get st.clauses clause)
 
   -- it is there, and its text comes after what was there
   abbrev pub IsDisplayed : {A : Type 0} → Texts N S → String A → String A → Type 0

@@ -6,7 +6,7 @@ use Rattle.providers.specs.declared.requirement.Requirement.{Requirement}
 use Rattle.providers.specs.Provider.{Universe, sets_of}
 use Rattle.decisions.specs.Literals.{Lit}
 use Rattle.decisions.specs.Trail.{Trail, val}
-use Rattle.clauses.specs.Clauses.{Kept, first_watches, is_conflict, condition_literals}
+use Rattle.clauses.specs.Clauses.{StoredLiterals, first_watches, is_conflict, condition_literals}
 use Rattle.clauses.specs.declared.disjunction.Disjunction.{Disjunction}
 use Rattle.falsified_clauses.specs.declared.demand.Demand.{Demand}
 use Rattle.falsified_clauses.specs.Clauses.{Lists}
@@ -19,7 +19,7 @@ use Rattle.resolvo_store.specs.declared.store.registering.Required.{Required}
 -- these lists of its requirement
 abbrev pub StartsRight : {N A : Type 0} → Demand → List (Vec ℕ A) → List Lit → Trail → Required N → Type 0
 StartsRight demand lists literals trail required =
-    (k : Kept) → condition_literals k demand.condition ≡ literals →
+    (k : StoredLiterals) → condition_literals k demand.condition ≡ literals →
     k.lists demand.requirement ≡ map (λ l. l.items) lists →
     (literals_watched required.watches ≡ first_watches k (val trail.entries) required.clause) ×
     (required.is_conflict ≡ is_conflict k (val trail.entries) required.clause)

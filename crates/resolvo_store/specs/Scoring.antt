@@ -1,11 +1,11 @@
 -- What raising a score does to the scores and to the queue. N are the names, S the solvables, A the allocators.
 use Rattle.std.specs.Prelude.{◌≡◌, ℕ, Bool}
-use Rattle.id_maps.specs.Scores.{Kept, bumped}
+use Rattle.id_maps.specs.Scores.{ScoreState, bumped}
 use Rattle.resolvo_queue.specs.Queue.{Queue, StandsOn}
 use Rattle.resolvo_queue.specs.References.{References}
 
 -- a name's score is raised, where scored tells the scores that a map has
-abbrev pub IsRaised : {N M : Type 0} → (N → N → Bool) → (M → N → ℕ) → N → ℕ → Kept M → Kept M → Type 0
+abbrev pub IsRaised : {N M : Type 0} → (N → N → Bool) → (M → N → ℕ) → N → ℕ → ScoreState M → ScoreState M → Type 0
 IsRaised same scored name amount old new = scored new.map ≡ bumped same name amount (scored old.map)
 
 -- whatever the old queue stood on, the new one does

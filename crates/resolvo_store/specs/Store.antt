@@ -1,4 +1,4 @@
--- The abstract store, and what a clause store keeps of it. N are the names, S the solvables.
+-- The abstract store, and the state of a clause store. N are the names, S the solvables.
 use Rattle.std.specs.Prelude.{ℕ, List, [], ◌∷◌, map, flat_map, slice_index_or, Option, option_map, slice_get, unwrap_or}
 use Rattle.std.specs.Map.{lookup}
 use Rattle.typed_ids.specs.declared.version_set_id.VersionSetId.{VersionSetId}
@@ -9,11 +9,11 @@ use Rattle.variables.specs.declared.variable_origin.VariableOrigin.{VariableOrig
 use Rattle.variables.specs.declared.variable_origin.VariableOrigin.TheVariants.{Root}
 use Rattle.decisions.specs.Literals.{Lit, Values}
 use Rattle.decisions.specs.Trail.{Entry, val}
-use Rattle.clauses.specs.Clauses.{Kept as KeptLiterals, literals_of, condition_literals}
+use Rattle.clauses.specs.Clauses.{StoredLiterals, literals_of, condition_literals}
 use Rattle.clauses.specs.declared.clause.Clause.{Clause}
-use Rattle.at_most_once.specs.AtMostOne.{Tracker, BitClause, Kept as KeptTracker, empty}
+use Rattle.at_most_once.specs.AtMostOne.{Tracker, BitClause, TrackerState, empty}
 use Rattle.at_most_once.specs.NameTrackers.{tracker_of}
-use Rattle.resolvo_store.specs.Asked.{Asked}
+use Rattle.resolvo_store.specs.QueueState.{QueueState}
 use Rattle.resolvo_store.specs.Tracking.{bits_of}
 use Rattle.watch_map.specs.WatchLists.{WatchLists, Watches, literals_in, watchers}
 use Rattle.resolvo_queue.specs.declared.requires_clause.RequiresClause.{RequiresClause}
@@ -21,7 +21,7 @@ use Rattle.resolvo_queue.specs.Rows.{Row, rows}
 pub use Rattle.solver_cache.specs.Functions.{Provider, gathered}
 
 -- the literals of a disjunction, and the condition that they come of
-pub record KeptDisjunction : Type 0 where
+pub record StoredDisjunction : Type 0 where
   pub literals : List Lit
   pub condition : ℕ
 
@@ -33,7 +33,7 @@ pub record Store (N S : Type 0) : Type 0 where
   -- the requirements that were loaded, with the lists of their candidates' variables, one list a version set
   pub loaded : List (Requirement × List (List ℕ))
   -- the disjunctions: the id of each is its place
-  pub disjunctions : List KeptDisjunction
+  pub disjunctions : List StoredDisjunction
   -- the literals of the learnt clauses
   pub learnt : List (List Lit)
   -- all clauses: a clause's id is its place
@@ -53,12 +53,12 @@ pub record Store (N S : Type 0) : Type 0 where
   -- the clauses that watch each literal, front first
   pub watchers : Lit → List ℕ
 
--- what the clause store keeps. C is its map from names to scores
-pub record Kept (D N S C : Type 0) : Type 0 where
+-- the state of a clause store. C is its map from names to scores
+pub record StoreState (D N S C : Type 0) : Type 0 where
   pub provider : D
   pub origins : List (VariableOrigin N S)
   pub loaded : List (Requirement × List (List ℕ))
-  pub disjunctions : List KeptDisjunction
+  pub disjunctions : List StoredDisjunction
   pub learnt : List (List Lit)
   pub clauses : List (Clause N)
   -- a record for each clause that watches something, and the lists that belong to them
@@ -68,27 +68,27 @@ pub record Kept (D N S C : Type 0) : Type 0 where
   pub trail : List Entry
   pub place : ℕ
   -- the trackers of the names that have one
-  pub trackers : List (N × KeptTracker ℕ)
+  pub trackers : List (N × TrackerState ℕ)
   pub scores : C
-  -- what the queue was told, and how often it walked rows: no part of the abstract store
-  pub asked : Asked
+  -- the queue's last sync, and how often it walked rows: no part of the abstract store
+  pub queue_state : QueueState
 
--- the abstract store of what is kept, where scored tells the scores that a map has
-abbrev pub store_of : {D N S C : Type 0} → (D → Provider N S) → (C → N → ℕ) → Kept D N S C → Store N S
-store_of provided scored kept = record {
-  provider = provided kept.provider;
-  origins = kept.origins;
-  loaded = kept.loaded;
-  disjunctions = kept.disjunctions;
-  learnt = kept.learnt;
-  clauses = kept.clauses;
-  watches = map literals_in kept.records;
-  requires = kept.requires;
-  trail = kept.trail;
-  place = kept.place;
-  scores = scored kept.scores;
-  trackers = tracker_of (provided kept.provider).same_name kept.trackers;
-  watchers = watchers kept.lists kept.records;
+-- the abstract store of a state, where `scored` gives the scores that a map has
+abbrev pub store_of : {D N S C : Type 0} → (D → Provider N S) → (C → N → ℕ) → StoreState D N S C → Store N S
+store_of provided scored state = record {
+  provider = provided state.provider;
+  origins = state.origins;
+  loaded = state.loaded;
+  disjunctions = state.disjunctions;
+  learnt = state.learnt;
+  clauses = state.clauses;
+  watches = map literals_in state.records;
+  requires = state.requires;
+  trail = state.trail;
+  place = state.place;
+  scores = scored state.scores;
+  trackers = tracker_of (provided state.provider).same_name state.trackers;
+  watchers = watchers state.lists state.records;
 }
 
 -- the store that has the root's variable and nothing else
@@ -119,8 +119,8 @@ module _ {N S : Type 0} (st : Store N S) where
   lists_of r = lookup (same_requirement r) st.loaded
 
   -- what the literals of its clauses are read from
-  abbrev pub kept_literals : KeptLiterals
-  kept_literals = record {
+  abbrev pub stored_of : StoredLiterals
+  stored_of = record {
     learnt = st.learnt;
     lists = λ r. unwrap_or (lists_of r) [];
     disjunctions = map (λ d. d.literals) st.disjunctions;
@@ -128,11 +128,11 @@ module _ {N S : Type 0} (st : Store N S) where
 
   -- the literals of a clause, none of an unknown one
   abbrev pub clause_literals : ℕ → List Lit
-  clause_literals c = unwrap_or (option_map (literals_of kept_literals) (slice_get st.clauses c)) []
+  clause_literals c = unwrap_or (option_map (literals_of stored_of) (slice_get st.clauses c)) []
 
   -- the literals of a condition: those of its disjunction, none without one
   abbrev pub condition_of : Option ℕ → List Lit
-  condition_of d = condition_literals kept_literals d
+  condition_of d = condition_literals stored_of d
 
   -- the clauses that tracking added under a name
   abbrev pub bits : N → List (BitClause ℕ)

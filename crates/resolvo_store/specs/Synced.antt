@@ -14,9 +14,9 @@ pub record IsInStep {N H : Type 0} (q : Queue N H) (t : Trail) : Type 0 where
   pub within : t.floor ≤ length t.entries
   pub agrees : q.must_start_anew ≡ false → AgreesBelow t.floor (decisions_of t.entries) q
 
--- the queue may be asked for a decision once it was brought up to date: what its clauses name is there, the names of
--- each clause are its requirement's packages, and only hot names have a score. has tells what sets of names have
-pub record MayAsk {N S A H : Type 0} (has : H → N → Bool) (scores : N → ℕ) (refs : References N S A) (q : Queue N H)
+-- the queue may decide once it was synced: what its clauses name is there, the names of each clause are its
+-- requirement's packages, and only hot names have a score. `has` says what sets of names have
+pub record MayDecide {N S A H : Type 0} (has : H → N → Bool) (scores : N → ℕ) (refs : References N S A) (q : Queue N H)
     (t : Trail) : Type 0 where
   pub in_step : IsInStep q t
   pub stands : StandsOn refs q

@@ -12,9 +12,9 @@ use Rattle.variables.specs.Variables.{are_variables_out}
 use Rattle.decisions.specs.Literals.{Pos, Neg}
 use Rattle.clauses.specs.declared.clause.Clause.{Clause}
 use Rattle.clauses.specs.declared.clause.Clause.TheVariants.{ForbidMultipleInstances}
-use Rattle.at_most_once.specs.AtMostOne.{Tracker, BitClause, Kept, Adds, needs_helper, new_clauses}
+use Rattle.at_most_once.specs.AtMostOne.{Tracker, BitClause, TrackerState, Adds, needs_helper, new_clauses}
 use Rattle.at_most_once.specs.NameTrackers.{tracker_of, with_tracked, lacks_tracker}
-use Rattle.watch_map.specs.ClauseList.{Kept as KeptClauses, contents, helper_literal, with_forbidden}
+use Rattle.watch_map.specs.ClauseList.{ClauseListState, contents, helper_literal, with_forbidden}
 use Rattle.resolvo_store.specs.declared.answers.Tracked.{Tracked}
 
 -- it stands for a helper of tracked variables
@@ -44,15 +44,15 @@ abbrev pub lacks_more : {N S : Type 0} → List (VariableOrigin N S) → Option 
 lacks_more os h clauses more = (is_some h && are_variables_out (length os)) || nat_lt (2 ^ 32 - 1) (clauses + more)
 
 -- tracking one variable more under a name, where these trackers are kept
-module _ {N S : Type 0} (same : N → N → Bool) (os : List (VariableOrigin N S)) (kept : List (N × Kept ℕ)) (name : N)
-    (v : ℕ) where
+module _ {N S : Type 0} (same : N → N → Bool) (os : List (VariableOrigin N S)) (stored : List (N × TrackerState ℕ))
+    (name : N) (v : ℕ) where
   -- the helper that the variable needs
   abbrev pub helper_needed : Option ℕ
-  helper_needed = next_helper os (tracker_of same kept name) v
+  helper_needed = next_helper os (tracker_of same stored name) v
 
   -- the clauses of it
   abbrev pub clauses_needed : List (BitClause ℕ)
-  clauses_needed = new_clauses (tracker_of same kept name) helper_needed v
+  clauses_needed = new_clauses (tracker_of same stored name) helper_needed v
 
   -- the answer says so
   abbrev pub IsNewlyTracked : Tracked → Type 0
@@ -63,25 +63,25 @@ module _ {N S : Type 0} (same : N → N → Bool) (os : List (VariableOrigin N S
   GetsHelper new = new ≡ origins_with os name helper_needed
 
   -- the clauses have its own
-  abbrev pub GetsClauses : KeptClauses N → KeptClauses N → Type 0
+  abbrev pub GetsClauses : ClauseListState N → ClauseListState N → Type 0
   GetsClauses old new = contents new ≡ with_forbidden name (contents old) clauses_needed
 
   -- the trackers have it
-  abbrev pub GetsTracker : List (N × Kept ℕ) → Type 0
-  GetsTracker new = tracker_of same new ≡ with_tracked same name v helper_needed (tracker_of same kept)
+  abbrev pub GetsTracker : List (N × TrackerState ℕ) → Type 0
+  GetsTracker new = tracker_of same new ≡ with_tracked same name v helper_needed (tracker_of same stored)
 
   -- no id is left for its helper, or for its clauses
-  abbrev pub lacks_needed : KeptClauses N → Bool
+  abbrev pub lacks_needed : ClauseListState N → Bool
   lacks_needed clauses = lacks_more os helper_needed (length (contents clauses).clauses) (length clauses_needed)
 
   -- there are ids for all of it
-  abbrev pub Fits : (N → Bool) → KeptClauses N → Type 0
+  abbrev pub Fits : (N → Bool) → ClauseListState N → Type 0
   Fits is_large clauses = (is_large name || lacks_needed clauses) ≡ false
 
   -- why it may be refused
-  abbrev pub IsRefusal : (N → Bool) → Bool → KeptClauses N → StoreError → Type 0
+  abbrev pub IsRefusal : (N → Bool) → Bool → ClauseListState N → StoreError → Type 0
   IsRefusal is_large are_many clauses =
-      IsGrowthRefusal (lacks_tracker (is_large name) are_many (tracker_of same kept name) || lacks_needed clauses)
+      IsGrowthRefusal (lacks_tracker (is_large name) are_many (tracker_of same stored name) || lacks_needed clauses)
 
   -- why its helper may be
   abbrev pub IsHelperRefusal : StoreError → Type 0

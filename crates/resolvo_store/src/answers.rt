@@ -38,6 +38,6 @@ pub enum Next {
     Decided(QueueDecision),
     /// It is done: no clause wants a decision.
     Done,
-    /// It can't go on: this clause, the first such one, can't be met any more.
+    /// It can't go on: this clause, the first such one, can't be satisfied any more.
     Falsified(ClauseId),
 }

@@ -7,7 +7,7 @@ ghost use Rattle.providers.specs.Provider.{knows_requirement};
 ghost use Rattle.variables.specs.Variables.{with_variables, lacks_variables, IsPartlyInterned};
 ghost use Rattle.solver_cache.specs.Cache.{listed};
 ghost use Rattle.solver_cache.specs.Questions.{IsLater};
-ghost use Rattle.resolvo_store.specs.LoadedLists.{AreInterned, AreLoaded, HaveVariables, SomeHaveVariables, WasAsked};
+ghost use Rattle.resolvo_store.specs.LoadedLists.{AreInterned, AreLoaded, HaveVariables, SomeHaveVariables, WasQueried};
 ghost use Rattle.resolvo_store.specs.LoadedLists.{AreFew, NamesFit, VariablesFit, RefusesLoad, lacks_rows};
 
 use id_maps::{IdMap, IdSet, SolverId};
@@ -39,8 +39,8 @@ pub(crate) fn load_lists<D: DependencyProvider + Drop>(
     ensures refused { IfErr result (RefusesLoad (⟦<D as ProviderFunctions>⟧.functions cache.old.provider) requirement
         cache.old cache.new variables.old) }
     ensures later { IsLater D.SolvableId.Set.has cache.old cache.new }
-    ensures asked { OnOk result
-        (WasAsked (⟦<D as ProviderFunctions>⟧.functions cache.old.provider) requirement cache.new) }
+    ensures queried { OnOk result
+        (WasQueried (⟦<D as ProviderFunctions>⟧.functions cache.old.provider) requirement cache.new) }
 {
     let ids = cache.cache_sorted_lists(requirement)?;
     intern_lists(cache, ids, variables)

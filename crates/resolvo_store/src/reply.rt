@@ -6,50 +6,50 @@ use resolvo_queue::QueueDecision;
 use std::alloc::Allocator;
 use typed_ids::{ClauseId, DisjunctionId, StoreError, VariableId};
 
-/// The reply to a command. It may hold lists, which are of the store's allocator.
+/// The reply to a command. Its lists are allocated by the store's allocator.
 #[derive(Drop)]
 #[derive_where(Debug, PartialEq, Eq)]
 pub enum Reply<A: Allocator> {
-    /// The solvable's variable, or the new one.
+    /// The solvable's variable (`Command::Variable`), or the new helper (`Command::Helper`).
     Variable(VariableId),
     /// The variables of the requirement's candidates, best first, one list a version set.
     Loaded(Vec<Vec<VariableId, A>, A>),
-    /// The disjunction is kept under this id.
+    /// The disjunction is stored under this id.
     Disjunction(DisjunctionId),
-    /// The clause was added under this id; whether it is a conflict: what its parent asks for is false already, and the
-    /// parent isn't. Kinds without a parent are none.
+    /// The clause was added under this id. Whether it is a conflict: it has literals beside its parent's, all of these
+    /// are false, and the parent isn't. A clause of a kind without a parent is none.
     Clause(ClauseId, bool),
     /// Whether the variable is new under the name, and how many clauses were added for it.
     Tracked(bool, usize),
-    /// The variable had no value, and has this one now.
+    /// The variable had no value, and has the given one now.
     Assigned,
-    /// The variable has this value already.
+    /// The variable had the given value already.
     Already,
     /// The variable has the other value.
     Clash,
-    /// The assignments were taken back; of the newest alone, what it was, and the level of the one before it (0 if
-    /// there is none).
+    /// Assignments were undone. After `UndoLast`, if there was one: what it was, and the level of the one before it (0
+    /// if there is none). After `UndoUntil` none.
     Undone(Option<(Decision, u32)>),
     /// The next assignment to propagate, if there is one.
     Next(Option<Decision>),
-    /// It was done, and there is nothing to tell.
+    /// The command was obeyed, and has no other answer.
     Done,
     /// The clauses that watch the literal, front first.
     Watchers(Vec<ClauseId, A>),
-    /// This candidate is to be decided next.
+    /// This candidate is the next decision.
     Decided(QueueDecision),
-    /// No clause wants a decision.
+    /// No clause is eligible for a decision.
     NoDecision,
-    /// This clause, the first such one, can't be met any more.
+    /// After `Decide`: all literals of this requires clause are false, and it is the first such one of the scan.
     Falsified(ClauseId),
-    /// All literals of this clause are false.
+    /// After `Saturate`: all literals of this clause, of whichever kind, are false.
     Conflict(ClauseId),
     /// The command was refused, and changed nothing; or memory was refused to a `Saturate`, and what it forced before
     /// stays.
     Refused(StoreError),
 }
 
-/// A reply as the abstract store gives it, of which `==` speaks: how much room its lists have tells none from another.
+/// What a reply means to the abstract store. `==` compares just that: the capacity of the lists makes no difference.
 pub trait AbstractReply: Eq {
     ghost use Rattle.resolvo_store.specs.Command.{Reply};
 

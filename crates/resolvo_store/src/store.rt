@@ -10,7 +10,7 @@
 //! - `store/scoring.rt`: `bump`, `decay` and `set_standard`, which change scores and how the queue may look at them;
 //! - `store/assigning.rt`: `assign`, `undo_last`, `undo_until` and `next_unpropagated`, which change the trail;
 //! - `store/watching.rt`: `rewatch` and `watchers`, which move a watch and tell who watches;
-//! - `store/saturating.rt`: `saturate`, which assigns what clauses force;
+//! - `store/saturating.rt`: `saturate`, which assigns what unit clauses imply;
 //! - `store/deciding.rt`: `decide`, which changes nothing that is seen, and its two halves as calls of their own;
 //! - `store/counting.rt`: how the counters of falsified clauses follow the trail;
 //! - `store/reading.rt`: what is read beside that;
@@ -65,9 +65,9 @@ use watch_map::{ClauseList, Marks};
 /// A clause store over the packages of a provider.
 ///
 /// A contract speaks of the abstract store, `⟦<D as Abstract>⟧.store self.now`. Whatever a command is refused for,
-/// the store is as it was; a `Saturate` alone keeps what it forced before memory was refused.
+/// the store is as it was; a `Saturate` alone keeps the entries that it added before memory was refused.
 pub struct ClauseStore<D: DependencyProvider> {
-    /// The provider, and what it was asked and answered.
+    /// The provider, with its queries and answers.
     cache: SolverCache<D>,
     variables: VariableMap<D::NameId, D::SolvableId, D::Alloc>,
     /// The candidates' variables of each loaded requirement, best first, one list a version set.
@@ -111,18 +111,18 @@ impl<D: DependencyProvider + Drop> Drop for ClauseStore<D> {
 }
 
 impl<D: DependencyProvider> Model for ClauseStore<D> {
-    ghost use Rattle.resolvo_store.specs.Asked.{asked_of};
-    ghost use Rattle.resolvo_store.specs.Store.{Kept, store_of};
-    ghost use Rattle.resolvo_store.specs.Lists.{lists_kept, disjunctions_kept, IsInOrder};
+    ghost use Rattle.resolvo_store.specs.QueueState.{queue_state_of};
+    ghost use Rattle.resolvo_store.specs.Store.{StoreState, store_of};
+    ghost use Rattle.resolvo_store.specs.Lists.{lists_of_loaded, stored_disjunctions, IsInOrder};
     ghost use Rattle.solver_cache.specs.Functions.{gathered};
 
-    ghost Value = { Kept D D.NameId D.SolvableId D.NameId.Scores };
+    ghost Value = { StoreState D D.NameId D.SolvableId D.NameId.Scores };
 
     ghost view = { λ a. record {
       provider = a.cache.provider;
       origins = a.variables;
-      loaded = lists_kept a.loaded;
-      disjunctions = disjunctions_kept a.disjunctions;
+      loaded = lists_of_loaded a.loaded;
+      disjunctions = stored_disjunctions a.disjunctions;
       learnt = a.clauses.learnt;
       clauses = a.clauses.clauses;
       records = a.clauses.records;
@@ -132,7 +132,7 @@ impl<D: DependencyProvider> Model for ClauseStore<D> {
       place = a.trail.place;
       trackers = a.trackers;
       scores = a.scores.map;
-      asked = asked_of a.queue a.trail;
+      queue_state = queue_state_of a.queue a.trail;
     } };
 
     ghost invariant = { λ a. IsInOrder D.NameId.Set.has
@@ -140,8 +140,8 @@ impl<D: DependencyProvider> Model for ClauseStore<D> {
         D.SolvableId.Set.is_too_large D.NameId.are_many D.universe D.answers) D.NameId.Scores.value_at (record {
           provider = a.cache.provider;
           origins = a.variables;
-          loaded = lists_kept a.loaded;
-          disjunctions = disjunctions_kept a.disjunctions;
+          loaded = lists_of_loaded a.loaded;
+          disjunctions = stored_disjunctions a.disjunctions;
           learnt = a.clauses.learnt;
           clauses = a.clauses.clauses;
           records = a.clauses.records;
@@ -151,7 +151,7 @@ impl<D: DependencyProvider> Model for ClauseStore<D> {
           place = a.trail.place;
           trackers = a.trackers;
           scores = a.scores.map;
-          asked = asked_of a.queue a.trail;
+          queue_state = queue_state_of a.queue a.trail;
         })) a.loaded a.disjunctions a.cache a.queue a.falsified a.trail a.marks };
 }
 
@@ -161,14 +161,14 @@ impl<D: DependencyProvider + Drop> ClauseStore<D> {
     ghost use Rattle.resolvo_store.specs.Step.{Step, Run};
     ghost use Rattle.resolvo_store.specs.ForbidsTwo.{ForbidsTwo};
     ghost use Rattle.resolvo_store.specs.Sound.{IsSound};
-    ghost use Rattle.resolvo_store.specs.Asked.{owed};
+    ghost use Rattle.resolvo_store.specs.QueueState.{owed};
 
     /// A store that has the root's variable, and nothing else.
     pub fn new(alloc: D::Alloc, provider: D) -> Result<Self, StoreError>
         ensures provider { IfOk result (λ s. s.provider ≡ provider) }
         ensures ok { IfOk result (λ s. ⟦<D as Abstract>⟧.store s ≡ new_store (⟦<D as Abstract>⟧.store s).provider) }
         ensures sound { IfOk result (λ s. IsSound (⟦<D as Abstract>⟧.store s)) }
-        ensures owed { IfOk result (λ s. (r : ARequirement) → owed s.asked r ≡ 0) }
+        ensures owed { IfOk result (λ s. (r : ARequirement) → owed s.queue_state r ≡ 0) }
         ensures err { IfErr result (λ e. e ≡ OutOfMemory) }
     {
         let variables = VariableMap::new(alloc)?;
@@ -204,7 +204,7 @@ impl<D: DependencyProvider + Drop> ClauseStore<D> {
         ensures refused { IsRefused (reply_of result) →
             ⟦<D as Abstract>⟧.refused self.old (command_of command.now) self.new }
         ensures provider { self.new.provider ≡ self.old.provider }
-        ensures asked { ⟦<D as Abstract>⟧.asks self.old (command_of command.now) (reply_of result) self.new }
+        ensures queue_state { ⟦<D as Abstract>⟧.queue_step self.old (command_of command.now) (reply_of result) self.new }
         ensures was_sound { IsSound (⟦<D as Abstract>⟧.store self.old) }
         ensures sound { IsSound (⟦<D as Abstract>⟧.store self.new) }
         ensures at_most_one { (name : D.NameId) → ForbidsTwo (⟦<D as Abstract>⟧.store self.new) name }
@@ -218,7 +218,7 @@ impl<D: DependencyProvider + Drop> ClauseStore<D> {
     fn dispatch(&mut self, command: &Command<D::NameId, D::SolvableId, D::Alloc>) -> Reply<D::Alloc>
         ensures step { ⟦<D as Abstract>⟧.step self.old (command_of command.now) (reply_of result) self.new }
         ensures provider { self.new.provider ≡ self.old.provider }
-        ensures asked { ⟦<D as Abstract>⟧.asks self.old (command_of command.now) (reply_of result) self.new }
+        ensures queue_state { ⟦<D as Abstract>⟧.queue_step self.old (command_of command.now) (reply_of result) self.new }
     {
         match command {
             Command::Variable(solvable) => variable_reply(self.variable(*solvable)),

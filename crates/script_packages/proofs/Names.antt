@@ -36,11 +36,3 @@ module _ (l : Listing) (name : List ℕ) (place : ℕ) (within : place ≤ lengt
   unlisted past =
       let no : place < length l.pool.names → ⊥ = λ less. omega (arith, past, less) in
       sym (by_place (number_is (λ less. absurd (no less))) ∙ ap (λ b. b && has_span l place) (behind past))
-
--- a name that has no span isn't listed
-pub unlisted_without : (l : Listing) (name : List ℕ) → has_span l (name_number l name) ≡ false → is_listed l name ≡ false
-unlisted_without l name h = by_test (nat_lt (name_number l name) (length l.pool.names)) h
-  where
-    by_test : (b : Bool) → has_span l (name_number l name) ≡ false → (b && has_span l (name_number l name)) ≡ false
-    by_test true h = h
-    by_test false h = λ i. false

@@ -44,7 +44,7 @@ abbrev pub NeverBegins : Listing → List (List ℕ) → Type 0
 NeverBegins l [] = ⊤
 NeverBegins l (line ∷ lines) = OnEffect (effect_of l (catalogue_line_of line)) (λ more. NeverBegins more lines) ⊥ ⊥
 
--- of lines after this listing, with so many before them, the first `begin` is the line of the number `before`; the
+-- of lines after this listing, with n lines before them, the first `begin` is the line of the number `before`; the
 -- packages are those that are listed by then, and the commands are in `left`
 abbrev pub CommandsBegin : Listing → ℕ → List (List ℕ) → ℕ → List (List ℕ) → Packages → Type 0
 CommandsBegin l n [] before left packages = ⊥
@@ -52,7 +52,7 @@ CommandsBegin l n (line ∷ lines) before left packages =
     OnEffect (effect_of l (catalogue_line_of line)) (λ more. CommandsBegin more (n + 1) lines before left packages)
     ((before ≡ n + 1) × (left ≡ lines) × AreListed packages l) ⊥
 
--- of lines after this listing, with so many before them, that of this number is the first unreadable one, and no line
+-- of lines after this listing, with n lines before them, that of this number is the first unreadable one, and no line
 -- before it begins the commands
 abbrev pub FaultyAt : Listing → ℕ → List (List ℕ) → ℕ → Type 0
 FaultyAt l n [] number = ⊥

@@ -100,13 +100,13 @@ with_versions l name (word ∷ words) =
     else option_and_then (λ favored. option_map (with_span_from name (length l.pool.solvables) favored)
     (listed_versions l name (word ∷ words))) (favored_place (word ∷ words))
 
--- the version sets with those of these words after them, where each word is one of so many
+-- the version sets with those of these words after them, where each word is one of `count`
 abbrev pub listed_sets : ℕ → List VersionSetId → List (List ℕ) → Option (List VersionSetId)
 listed_sets count sets [] = Some sets
 listed_sets count sets (word ∷ words) =
     option_and_then (λ v. listed_sets count (sets ++ record { 0 = v } ∷ []) words) (below count (number_32 word))
 
--- whether each word is a version set, of so many
+-- whether each word is a version set, of `count`
 abbrev pub are_sets : ℕ → List (List ℕ) → Bool
 are_sets count words = list_all (λ word. is_some (below count (number_32 word))) words
 

@@ -12,12 +12,12 @@ use Rattle.script_packages.specs.declared.packages.VersionRange.{VersionRange}
 abbrev pub same_id : ℕ → ℕ → Bool
 same_id a b = a == b
 
--- so many numbers from the first on
+-- `count` numbers from the first on
 abbrev pub numbers : ℕ → ℕ → List ℕ
 numbers first zero = []
 numbers first (suc count) = first ∷ numbers (first + 1) count
 
--- a span that ends within so many solvables
+-- a span that ends within `count` solvables
 abbrev pub span_within : ℕ → Option Span → Option Span
 span_within count None = None
 span_within count (Some span) = if nat_lt span.last count then Some span else None

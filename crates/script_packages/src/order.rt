@@ -28,10 +28,10 @@ fn preference(pool: &Pool<VersionRange>, one: SolvableId, other: SolvableId) -> 
     than.cmp(&version).then(one.cmp(&other))
 }
 
-/// So many solvables at most are put in order where they are; of more each version is looked up once beforehand.
+/// Up to this number of solvables are put in order where they are; of more each version is looked up once beforehand.
 const FEW: usize = 3;
 
-/// So many solvables at most are sorted with no memory of the heap.
+/// Up to this number of solvables are sorted with no memory of the heap.
 const SHORT: usize = 64;
 
 /// A solvable, with its version.

@@ -20,7 +20,7 @@ use typed_ids::{
     VersionSetUnionId,
 };
 
-/// Of so many candidates at most, those in a range are put on the stack first, so that each is looked at once.
+/// Of up to this number of candidates, those in a range are put on the stack first, so that each is looked at once.
 const SHORT: usize = 128;
 
 impl Interner for Packages {

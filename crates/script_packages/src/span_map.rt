@@ -7,7 +7,7 @@ ghost use Rattle.script_packages.specs.Packages.{same_id};
 
 use crate::packages::Span;
 use id_maps::{IdMap, SolverId};
-use id_storage::KeptAnswers;
+use id_storage::StoredAnswers;
 use std::alloc::Global;
 use std::marker::Model;
 use typed_ids::{NameId, StoreError};
@@ -16,7 +16,7 @@ use typed_ids::{NameId, StoreError};
 /// entries in the order of insertion.
 #[derive(Drop)]
 pub struct SpanMap {
-    entries: KeptAnswers<u32, NameId, Span, Global>,
+    entries: StoredAnswers<u32, NameId, Span, Global>,
 }
 
 impl Model for SpanMap {
@@ -34,7 +34,7 @@ impl SpanMap {
         ensures { result ≡ [] }
     {
         SpanMap {
-            entries: KeptAnswers::new(alloc),
+            entries: StoredAnswers::new(alloc),
         }
     }
 

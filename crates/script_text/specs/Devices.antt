@@ -3,21 +3,21 @@ use Rattle.std.specs.Prelude.{◌≡◌, ℕ, zero, suc, ◌^◌, ◌-◌, ◌<�
 use Rattle.script_text.specs.declared.fault.ScriptFault.{ScriptFault}
 use Rattle.script_text.specs.declared.fault.ScriptFault.TheVariants.{Unreadable, Device, Memory}
 
--- so many calls lead from the one state to the other
+-- n calls lead from the one state to the other
 abbrev pub Calls : {S : Type 0} → (S → S → Type 0) → ℕ → S → S → Type 0
 Calls goes zero s t = s ≡ t
 Calls {S} goes (suc n) s t = (m : S) × Calls goes n s m × goes m t
 
 module _ {S : Type 0} (goes fails : S → S → Type 0) where
-  -- some calls lead from the one state to the other, so many at most
+  -- some calls lead from the one state to the other, this number at most
   abbrev pub CallsWithin : ℕ → S → S → Type 0
   CallsWithin most s t = (n : ℕ) × (n ≤ most) × Calls goes n s t
 
-  -- fewer calls than so many go well, and then one fails
+  -- fewer calls than this number go well, and then one fails
   abbrev pub FailsWithin : ℕ → S → S → Type 0
   FailsWithin most s t = (n : ℕ) × (m : S) × (n < most) × Calls goes n s m × fails m t
 
-  -- how reading ends, in so many reads at most: none fails; or the last one does, or all are made, and then it is the
+  -- how reading ends, in `most` reads at most: none fails; or the last one does, or all are made, and then it is the
   -- device's fault
   abbrev pub ReadingEnds : {T : Type 0} → ℕ → S → Result T ScriptFault → S → Type 0
   ReadingEnds most s (Ok _) t = CallsWithin most s t

@@ -13,7 +13,7 @@ use std::io::ErrorKind;
 /// How many reads a reader has to end in.
 const MOST_READS: u64 = 1 << 32;
 
-/// So many bytes are read at once.
+/// The number of bytes that are read at once.
 const PIECE: usize = 65536;
 
 /// All bytes of the reader, to its end. A read that was interrupted is tried again. A reader that hasn't ended after
@@ -26,7 +26,7 @@ pub fn read_whole<S: Source>(alloc: Global, reader: &mut S) -> Result<Vec<u8>, S
     read_within(alloc, reader, MOST_READS)
 }
 
-/// All bytes of the reader, to its end, as [`read_whole`] reads them, but in so many reads at most. That which meets
+/// All bytes of the reader, to its end, as [`read_whole`] reads them, but in `reads` reads at most. That which meets
 /// the end is one of them, and so is one that was interrupted.
 pub fn read_within<S: Source>(
     alloc: Global,
@@ -44,7 +44,7 @@ pub fn read_within<S: Source>(
     Ok(input)
 }
 
-/// Reads the reader to its end, piece by piece, in so many reads at most.
+/// Reads the reader to its end, piece by piece, in `reads` reads at most.
 fn read_pieces<S: Source>(
     reader: &mut S,
     piece: &mut [u8],
@@ -67,7 +67,7 @@ fn read_pieces<S: Source>(
 }
 
 /// One read, whose bytes are put after those before it; whether it met the end. One that was interrupted gives none. At
-/// most so many bytes are read as the piece has room for.
+/// most the length of the piece is read.
 pub fn read_piece<S: Source>(
     reader: &mut S,
     piece: &mut [u8],

@@ -7,7 +7,7 @@ ghost use Rattle.script_text.specs.Words.{words};
 use crate::decimal::number;
 use crate::word::{split_word, without_blanks};
 
-/// So many digits have a value below 2^64 whatever they are.
+/// This many digits have a value below 2^64 whatever they are.
 const SHORT: usize = 19;
 
 /// A word, and the number that it writes, if it writes one.

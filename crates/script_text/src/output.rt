@@ -9,7 +9,7 @@ use crate::device::Sink;
 use crate::fault::ScriptFault;
 use std::io::ErrorKind;
 
-/// From so many bytes on, what waits is written.
+/// From this many bytes on, what waits is written.
 const PIECE: usize = 65536;
 
 /// Writes what waits, once that is much.

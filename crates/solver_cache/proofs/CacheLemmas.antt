@@ -23,13 +23,13 @@ use Rattle.providers.specs.contracts.requirement.RequirementPartialEq.TheImpl.{e
 use Rattle.providers.specs.declared.candidates.Candidates.{Candidates}
 use Rattle.providers.specs.declared.dependencies.Dependencies.{Dependencies}
 use Rattle.providers.specs.declared.requirement.Requirement.{Requirement}
-use Rattle.solver_cache.specs.Cache.{Cache, IsAnswer, IsCache, is_asked, is_set_asked, is_kept, same_set, sorted_of, list_at}
+use Rattle.solver_cache.specs.Cache.{Cache, IsAnswer, IsCache, is_queried, is_set_queried, is_cached, same_set, sorted_of, list_at}
 use Rattle.solver_cache.specs.declared.list_id.ListKind.TheVariants.{Matching, NonMatching, Sorted}
 use Rattle.providers.specs.Requirement.{same_requirement}
 use Rattle.providers.specs.declared.requirement.Requirement.TheVariants.{Single, Union}
 use Rattle.solver_cache.specs.Functions.{Provider, MayAnswer}
 use Rattle.solver_cache.specs.Hints.{hints_of}
-use Rattle.solver_cache.specs.Questions.{BeginsWith, IsLater, IsOnce, IsMarked, IsAsked, IsMatched, IsSorted}
+use Rattle.solver_cache.specs.Questions.{BeginsWith, IsLater, IsOnce, IsMarked, IsQueried, IsMatched, IsSorted}
 use Rattle.solver_cache.specs.Questions.{AreSorted, IsRefusedOf, IsRefusedOfSets, lacks_candidates}
 use Rattle.solver_cache.specs.declared.error.CacheError.{CacheError}
 use Rattle.solver_cache.specs.declared.error.CacheError.TheVariants.{Store, Cancelled}
@@ -38,21 +38,21 @@ use Rattle.solver_cache.specs.declared.error.CacheError.TheVariants.{Store, Canc
 
 module _ {K V : Type 0} where
   -- what is kept is kept with an entry more
-  pub kept_more : (test : K → Bool) (es : List (K × V)) (e : K × V) → is_kept test es ≡ true → is_kept test (es ++ e ∷ []) ≡ true
+  pub kept_more : (test : K → Bool) (es : List (K × V)) (e : K × V) → is_cached test es ≡ true → is_cached test (es ++ e ∷ []) ≡ true
   kept_more test [] e h = cc
   kept_more test (f ∷ es) e h =
       (elim (test f.0) as (λ b. is_some (cond b (Some f.1) (lookup test es)) ≡ true → is_some (cond b (Some f.1) (lookup test (es ++ e ∷ []))) ≡ true)
       [ true ↦ λ h. h | false ↦ λ h. kept_more test es e h ]) h
 
   -- and so is the last one
-  pub kept_last : (test : K → Bool) (es : List (K × V)) (key : K) (value : V) → test key ≡ true → is_kept test (es ++ (key, value) ∷ []) ≡ true
+  pub kept_last : (test : K → Bool) (es : List (K × V)) (key : K) (value : V) → test key ≡ true → is_cached test (es ++ (key, value) ∷ []) ≡ true
   kept_last test [] key value h = ap (λ b. is_some (cond b (Some value) None)) h
   kept_last test (f ∷ es) key value h =
       elim (test f.0) as (λ b. is_some (cond b (Some f.1) (lookup test (es ++ (key, value) ∷ []))) ≡ true)
       [ true ↦ refl | false ↦ kept_last test es key value h ]
 
   -- and it is what is found, where nothing was
-  pub found_last : (test : K → Bool) (es : List (K × V)) (key : K) (value : V) → is_kept test es ≡ false → test key ≡ true
+  pub found_last : (test : K → Bool) (es : List (K × V)) (key : K) (value : V) → is_cached test es ≡ false → test key ≡ true
       → lookup test (es ++ (key, value) ∷ []) ≡ Some value
   found_last test [] key value absent h = ap (λ b. cond b (Some value) None) h
   found_last test (f ∷ es) key value absent h =
@@ -87,7 +87,7 @@ some_is x y h = cc
 
 -- an answer that is kept, in its place
 pub kept_answer : {K V : Type 0} (same : K → K → Bool) → ((a b : K) → same a b ≡ true → a ≡ b) → (P : K → V → Type 0) (key : K) (place : ℕ) (es : List (K × V))
-    → All (λ e. P e.0 e.1) es → is_kept (same key) es ≡ true → slice_get (values_of es) place ≡ lookup (same key) es
+    → All (λ e. P e.0 e.1) es → is_cached (same key) es ≡ true → slice_get (values_of es) place ≡ lookup (same key) es
     → (value : V) × (slice_get (values_of es) place ≡ Some value) × P key value
 kept_answer same is_sameness P key place es all kept at =
     let some = some_of (lookup (same key) es) kept in
@@ -128,7 +128,7 @@ handed_on P (Ok v) e h r = absurd h
 handed_on P (Err x) e h r = subst P (sym h) r
 
 -- what wasn't asked for may be refused for want of ids
-pub refused_unasked : (asked lacks : Bool) (e : StoreError) → asked ≡ false → IsGrowthRefusal lacks e → IsGrowthRefusal (not asked && lacks) e
+pub refused_unasked : (queried lacks : Bool) (e : StoreError) → queried ≡ false → IsGrowthRefusal lacks e → IsGrowthRefusal (not queried && lacks) e
 refused_unasked false lacks e h r = r
 refused_unasked true lacks e h r = cc
 
@@ -217,83 +217,83 @@ module _ {D N S A H : Type 0} {may : MayAnswer N S A} (p : Provider N S) (c : Ca
     needs = All-push (λ e. needs_of e.1 ≡ p.answers.needs e.0) c.dependencies (s, answer) is.needs h;
   }
 
-  pub right_matched : (v : VersionSetId) (list : List S) → list ≡ matching p.universe p.answers v → is_set_asked p c v ≡ true
+  pub right_matched : (v : VersionSetId) (list : List S) → list ≡ matching p.universe p.answers v → is_set_queried p c v ≡ true
       → IsCache p may (record c { matching = c.matching ++ (v, list) ∷ [] })
-  right_matched v list h asked = record {
+  right_matched v list h queried = record {
     answers = is.answers;
     fits = is.fits;
-    matching = All-push (λ e. (e.1 ≡ matching p.universe p.answers e.0) × (is_set_asked p c e.0 ≡ true)) c.matching (v, list) is.matching (h, asked);
+    matching = All-push (λ e. (e.1 ≡ matching p.universe p.answers e.0) × (is_set_queried p c e.0 ≡ true)) c.matching (v, list) is.matching (h, queried);
     non_matching = is.non_matching;
     sorted = is.sorted;
     needs = is.needs;
   }
 
-  pub right_unmatched : (v : VersionSetId) (list : List S) → list ≡ non_matching p.universe p.answers v → is_set_asked p c v ≡ true
+  pub right_unmatched : (v : VersionSetId) (list : List S) → list ≡ non_matching p.universe p.answers v → is_set_queried p c v ≡ true
       → IsCache p may (record c { non_matching = c.non_matching ++ (v, list) ∷ [] })
-  right_unmatched v list h asked = record {
+  right_unmatched v list h queried = record {
     answers = is.answers;
     fits = is.fits;
     matching = is.matching;
     non_matching = All-push (λ e. (e.1 ≡ non_matching p.universe p.answers e.0) ×
-        (is_set_asked p c e.0 ≡ true)) c.non_matching (v, list) is.non_matching (h, asked);
+        (is_set_queried p c e.0 ≡ true)) c.non_matching (v, list) is.non_matching (h, queried);
     sorted = is.sorted;
     needs = is.needs;
   }
 
-  pub right_sorted : (r : Requirement) (list : List S) → list ≡ sorted_of p r → All (λ v. is_set_asked p c v ≡ true) (sets_of p.universe r)
+  pub right_sorted : (r : Requirement) (list : List S) → list ≡ sorted_of p r → All (λ v. is_set_queried p c v ≡ true) (sets_of p.universe r)
       → IsCache p may (record c { sorted = c.sorted ++ (r, list) ∷ [] })
-  right_sorted r list h asked = record {
+  right_sorted r list h queried = record {
     answers = is.answers;
     fits = is.fits;
     matching = is.matching;
     non_matching = is.non_matching;
-    sorted = All-push (λ e. (e.1 ≡ sorted_of p e.0) × All (λ v. is_set_asked p c v ≡ true) (sets_of p.universe e.0)) c.sorted (r, list) is.sorted (h, asked);
+    sorted = All-push (λ e. (e.1 ≡ sorted_of p e.0) × All (λ v. is_set_queried p c v ≡ true) (sets_of p.universe e.0)) c.sorted (r, list) is.sorted (h, queried);
     needs = is.needs;
   }
 
-  pub right_single : (v : VersionSetId) (list : List S) → list ≡ sorted p.universe p.answers p.same_solvable v → is_set_asked p c v ≡ true
+  pub right_single : (v : VersionSetId) (list : List S) → list ≡ sorted p.universe p.answers p.same_solvable v → is_set_queried p c v ≡ true
       → IsCache p may (record c { sorted = c.sorted ++ (Single v, list) ∷ [] })
-  right_single v list h asked =
+  right_single v list h queried =
       right_sorted (Single v) list (h ∙ sym (append-nil (sorted p.universe p.answers p.same_solvable v)))
-      (All-push (λ v. is_set_asked p c v ≡ true) [] v (λ k d lt. (let no : ⊥ = omega arith in absurd no)) asked)
+      (All-push (λ v. is_set_queried p c v ≡ true) [] v (λ k d lt. (let no : ⊥ = omega arith in absurd no)) queried)
 
   -- the answer that is kept of a package
-  pub found_answer : ((a b : N) → p.same_name a b ≡ true → a ≡ b) → (n : N) (place : ℕ) → is_kept (p.same_name n) c.candidates ≡ true
+  pub found_answer : ((a b : N) → p.same_name a b ≡ true → a ≡ b) → (n : N) (place : ℕ) → is_cached (p.same_name n) c.candidates ≡ true
       → slice_get (values_of c.candidates) place ≡ lookup (p.same_name n) c.candidates
       → (answer : Candidates S A) × (slice_get (values_of c.candidates) place ≡ Some answer) × IsAnswer p may n answer
   found_answer is_sameness n place kept at = kept_answer p.same_name is_sameness (IsAnswer p may) n place c.candidates is.answers kept at
 
   -- what is kept of a version set, and that its package was asked for
-  pub found_matching : (v : VersionSetId) (place : ℕ) → is_kept (same_set v) c.matching ≡ true →
+  pub found_matching : (v : VersionSetId) (place : ℕ) → is_cached (same_set v) c.matching ≡ true →
       slice_get (values_of c.matching) place ≡ lookup (same_set v) c.matching
-      → (list_at c (Matching, place) ≡ Some (matching p.universe p.answers v)) × (is_set_asked p c v ≡ true)
+      → (list_at c (Matching, place) ≡ Some (matching p.universe p.answers v)) × (is_set_queried p c v ≡ true)
   found_matching v place kept at =
       let found = kept_answer same_set sets_same (λ v list. (list ≡ matching p.universe p.answers v) ×
-      (is_set_asked p c v ≡ true)) v place c.matching is.matching kept at in
+      (is_set_queried p c v ≡ true)) v place c.matching is.matching kept at in
       (found.1 ∙ ap Some found.2.0, found.2.1)
 
-  pub found_non_matching : (v : VersionSetId) (place : ℕ) → is_kept (same_set v) c.non_matching ≡ true →
+  pub found_non_matching : (v : VersionSetId) (place : ℕ) → is_cached (same_set v) c.non_matching ≡ true →
       slice_get (values_of c.non_matching) place ≡ lookup (same_set v) c.non_matching
-      → (list_at c (NonMatching, place) ≡ Some (non_matching p.universe p.answers v)) × (is_set_asked p c v ≡ true)
+      → (list_at c (NonMatching, place) ≡ Some (non_matching p.universe p.answers v)) × (is_set_queried p c v ≡ true)
   found_non_matching v place kept at =
       let found = kept_answer same_set sets_same (λ v list. (list ≡ non_matching p.universe p.answers v) ×
-      (is_set_asked p c v ≡ true)) v place c.non_matching is.non_matching kept at in
+      (is_set_queried p c v ≡ true)) v place c.non_matching is.non_matching kept at in
       (found.1 ∙ ap Some found.2.0, found.2.1)
 
-  pub found_sorted : (r : Requirement) (place : ℕ) → is_kept (same_requirement r) c.sorted ≡ true →
+  pub found_sorted : (r : Requirement) (place : ℕ) → is_cached (same_requirement r) c.sorted ≡ true →
       slice_get (values_of c.sorted) place ≡ lookup (same_requirement r) c.sorted
-      → (list_at c (Sorted, place) ≡ Some (sorted_of p r)) × All (λ v. is_set_asked p c v ≡ true) (sets_of p.universe r)
+      → (list_at c (Sorted, place) ≡ Some (sorted_of p r)) × All (λ v. is_set_queried p c v ≡ true) (sets_of p.universe r)
   found_sorted r place kept at =
       let found = kept_answer same_requirement requirements_same (λ r list. (list ≡ sorted_of p r) ×
-      All (λ v. is_set_asked p c v ≡ true) (sets_of p.universe r)) r place c.sorted is.sorted kept at in
+      All (λ v. is_set_queried p c v ≡ true) (sets_of p.universe r)) r place c.sorted is.sorted kept at in
       (found.1 ∙ ap Some found.2.0, found.2.1)
 
-  pub found_single : (v : VersionSetId) (place : ℕ) → is_kept (same_requirement (Single v)) c.sorted ≡ true
+  pub found_single : (v : VersionSetId) (place : ℕ) → is_cached (same_requirement (Single v)) c.sorted ≡ true
       → slice_get (values_of c.sorted) place ≡ lookup (same_requirement (Single v)) c.sorted
-      → (list_at c (Sorted, place) ≡ Some (sorted p.universe p.answers p.same_solvable v)) × (is_set_asked p c v ≡ true)
+      → (list_at c (Sorted, place) ≡ Some (sorted p.universe p.answers p.same_solvable v)) × (is_set_queried p c v ≡ true)
   found_single v place kept at =
       let found = found_sorted (Single v) place kept at in
-      (found.0 ∙ ap Some (append-nil (sorted p.universe p.answers p.same_solvable v)), All-head (λ v. is_set_asked p c v ≡ true) v [] found.1)
+      (found.0 ∙ ap Some (append-nil (sorted p.universe p.answers p.same_solvable v)), All-head (λ v. is_set_queried p c v ≡ true) v [] found.1)
 
 -- another list that is the same
 pub more_list : {D N S A H : Type 0} (c : Cache D N S A H) (r : Requirement) (list other : List S) → list ≡ other
@@ -337,15 +337,15 @@ right_new p provider hinted = record {
 -- ---- version sets in turn
 
 -- what is kept is kept behind others
-kept_front : {K V : Type 0} (test : K → Bool) (es more : List (K × V)) → is_kept test es ≡ true → is_kept test (es ++ more) ≡ true
+kept_front : {K V : Type 0} (test : K → Bool) (es more : List (K × V)) → is_cached test es ≡ true → is_cached test (es ++ more) ≡ true
 kept_front test [] more h = cc
 kept_front test (e ∷ es) more h =
     (elim (test e.0) as (λ b. is_some (cond b (Some e.1) (lookup test es)) ≡ true → is_some (cond b (Some e.1) (lookup test (es ++ more))) ≡ true)
     [ true ↦ λ h. h | false ↦ λ h. kept_front test es more h ]) h
 
-pub kept_later : {K V : Type 0} (test : K → Bool) (es fs : List (K × V)) → BeginsWith es fs → is_kept test es ≡ true → is_kept test fs ≡ true
+pub kept_later : {K V : Type 0} (test : K → Bool) (es fs : List (K × V)) → BeginsWith es fs → is_cached test es ≡ true → is_cached test fs ≡ true
 kept_later test es fs begins h =
-    subst (λ l. is_kept test l ≡ true) (ap (λ l. l ++ drop (length es) fs) (sym begins) ∙
+    subst (λ l. is_cached test l ≡ true) (ap (λ l. l ++ drop (length es) fs) (sym begins) ∙
     take-append-drop (length es) fs) (kept_front test es (drop (length es) fs) h)
 
 pub begins_trans : {X : Type 0} (xs ys zs : List X) → BeginsWith xs ys → BeginsWith ys zs → BeginsWith xs zs
@@ -366,7 +366,7 @@ module _ {D N S A H : Type 0} (has : H → S → Bool) where
     hinted = λ s h. second.hinted s (first.hinted s h);
   }
 
-  pub asked_later : (p : Provider N S) (v : VersionSetId) (c d : Cache D N S A H) → IsLater has c d → is_set_asked p c v ≡ true → is_set_asked p d v ≡ true
+  pub asked_later : (p : Provider N S) (v : VersionSetId) (c d : Cache D N S A H) → IsLater has c d → is_set_queried p c v ≡ true → is_set_queried p d v ≡ true
   asked_later p v c d later h = kept_later _ c.candidates d.candidates later.candidates h
 
   -- one version set more
@@ -399,33 +399,33 @@ module _ {D N S A H : Type 0} (has : H → S → Bool) (p : Provider N S) (old m
   abbrev v : VersionSetId
   v = get_or vs i d
 
-  not_asked : is_set_asked p mid v ≡ false → is_set_asked p old v ≡ false
-  not_asked h = by_test (is_set_asked p old v) refl
+  not_asked : is_set_queried p mid v ≡ false → is_set_queried p old v ≡ false
+  not_asked h = by_test (is_set_queried p old v) refl
     where
-      by_test : (b : Bool) → is_set_asked p old v ≡ b → is_set_asked p old v ≡ false
+      by_test : (b : Bool) → is_set_queried p old v ≡ b → is_set_queried p old v ≡ false
       by_test true t = absurd (true≢false (sym (asked_later has p v old mid earlier t) ∙ h))
       by_test false t = t
 
   -- a refusal of one of version sets that were asked for in turn
   pub refused_in_turn : {C : Type 0} (e : CacheError C) →
-      IsRefusedOf (is_set_asked p mid (get_or vs i d))
+      IsRefusedOf (is_set_queried p mid (get_or vs i d))
       (lacks_candidates p mid (p.universe.set_name (get_or vs i d))) mid e new
       → IsRefusedOfSets p vs old e new
   refused_in_turn (Cancelled reason) h =
-      list_all_at (is_set_asked p old) vs i d lt (not_asked h.0)
+      list_all_at (is_set_queried p old) vs i d lt (not_asked h.0)
   refused_in_turn (Store e) h = refusal_wider _ _ e wider h
     where
       lacks : VersionSetId → Bool
       lacks w = lacks_candidates p new (p.universe.set_name w)
 
       test : VersionSetId → Bool
-      test w = not (is_set_asked p old w) && lacks w
+      test w = not (is_set_queried p old w) && lacks w
 
-      this : (a b : Bool) → is_set_asked p mid v ≡ a → (b ≡ true → lacks v ≡ true) → (not a && b) ≡ true → test v ≡ true
-      this true b asked more h = cc
-      this false b asked more h = ap (λ a. not a && lacks v) (not_asked asked) ∙ more h
+      this : (a b : Bool) → is_set_queried p mid v ≡ a → (b ≡ true → lacks v ≡ true) → (not a && b) ≡ true → test v ≡ true
+      this true b queried more h = cc
+      this false b queried more h = ap (λ a. not a && lacks v) (not_asked queried) ∙ more h
 
-      wider : (not (is_set_asked p mid v) && lacks_candidates p mid (p.universe.set_name v)) ≡ true → list_any test vs ≡ true
+      wider : (not (is_set_queried p mid v) && lacks_candidates p mid (p.universe.set_name v)) ≡ true → list_any test vs ≡ true
       wider h = list_any_at test vs i d lt (this _ _ refl (lacks_later has p (p.universe.set_name v) mid new later) h)
 
 -- ---- a union that isn't kept
@@ -435,7 +435,7 @@ none_of None h = refl
 none_of (Some x) h = cc
 
 -- an entry that doesn't pass changes no look-up
-skips : {K V : Type 0} (test : K → Bool) (es : List (K × V)) (e : K × V) → test e.0 ≡ false → is_kept test (es ++ e ∷ []) ≡ is_kept test es
+skips : {K V : Type 0} (test : K → Bool) (es : List (K × V)) (e : K × V) → test e.0 ≡ false → is_cached test (es ++ e ∷ []) ≡ is_cached test es
 skips test [] e h = ap (λ b. is_some (cond b (Some e.1) None)) h
 skips test (f ∷ es) e h =
     elim (test f.0) as (λ b. is_some (cond b (Some f.1) (lookup test (es ++ e ∷ []))) ≡ is_some (cond b (Some f.1) (lookup test es)))
@@ -443,10 +443,10 @@ skips test (f ∷ es) e h =
 
 module _ {D N S A H : Type 0} (has : H → S → Bool) (p : Provider N S) (may : MayAnswer N S A) (u : VersionSetUnionId) where
   abbrev kept_union : Cache D N S A H → Bool
-  kept_union c = is_kept (same_requirement (Union u)) c.sorted
+  kept_union c = is_cached (same_requirement (Union u)) c.sorted
 
-  asked_skips : (n : N) (c d : Cache D N S A H) → IsAsked p may has c n d → kept_union d ≡ kept_union c
-  asked_skips n c d h = by_kept (is_asked p c n) h
+  asked_skips : (n : N) (c d : Cache D N S A H) → IsQueried p may has c n d → kept_union d ≡ kept_union c
+  asked_skips n c d h = by_kept (is_queried p c n) h
     where
       by_kept : (b : Bool) → IsOnce b c (λ new. (answer : Candidates S A) × IsAnswer p may n answer × IsMarked p may has c (hints_of answer) new.hinted ×
           (new ≡ record c { candidates = c.candidates ++ (n, answer) ∷ []; hinted = new.hinted })) d → kept_union d ≡ kept_union c
@@ -454,15 +454,15 @@ module _ {D N S A H : Type 0} (has : H → S → Bool) (p : Provider N S) (may :
       by_kept false h = ap kept_union h.3
 
   matched_skips : (v : VersionSetId) (c d : Cache D N S A H) → IsMatched p may has c v d → kept_union d ≡ kept_union c
-  matched_skips v c d h = by_kept (is_kept (same_set v) c.matching) h
+  matched_skips v c d h = by_kept (is_cached (same_set v) c.matching) h
     where
-      by_kept : (b : Bool) → IsOnce b c (λ new. (mid : Cache D N S A H) × IsAsked p may has c (p.universe.set_name v) mid ×
+      by_kept : (b : Bool) → IsOnce b c (λ new. (mid : Cache D N S A H) × IsQueried p may has c (p.universe.set_name v) mid ×
           (new ≡ record mid { matching = mid.matching ++ (v, matching p.universe p.answers v) ∷ [] })) d → kept_union d ≡ kept_union c
       by_kept true h = ap kept_union h
       by_kept false h = ap kept_union h.2 ∙ asked_skips (p.universe.set_name v) c h.0 h.1
 
   sorted_skips : (v : VersionSetId) (c d : Cache D N S A H) → IsSorted p may has c v d → kept_union d ≡ kept_union c
-  sorted_skips v c d h = by_kept (is_kept (same_requirement (Single v)) c.sorted) h
+  sorted_skips v c d h = by_kept (is_cached (same_requirement (Single v)) c.sorted) h
     where
       by_kept : (b : Bool) → IsOnce b c (λ new. (mid : Cache D N S A H) × IsMatched p may has c v mid ×
           (new ≡ record mid { sorted = mid.sorted ++ (Single v, sorted p.universe p.answers p.same_solvable v) ∷ [] })) d → kept_union d ≡ kept_union c

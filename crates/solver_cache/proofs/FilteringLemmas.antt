@@ -5,10 +5,10 @@ use Rattle.typed_ids.specs.declared.error.StoreError.{StoreError}
 use Rattle.typed_ids.specs.declared.error.StoreError.TheVariants.{OutOfMemory}
 use Rattle.typed_ids.specs.declared.version_set_id.VersionSetId.{VersionSetId}
 use Rattle.providers.specs.declared.candidates.Candidates.{Candidates}
-use Rattle.solver_cache.specs.Cache.{Cache, IsAnswer, is_asked}
+use Rattle.solver_cache.specs.Cache.{Cache, IsAnswer, is_queried}
 use Rattle.solver_cache.specs.Functions.{Provider, MayAnswer}
 use Rattle.solver_cache.specs.Hints.{hints_of}
-use Rattle.solver_cache.specs.Questions.{IsLater, IsOnce, IsMarked, IsAsked}
+use Rattle.solver_cache.specs.Questions.{IsLater, IsOnce, IsMarked, IsQueried}
 use Rattle.solver_cache.proofs.CacheLemmas.{begins_same, begins_more, later_trans}
 
 -- want of memory refuses any growth
@@ -18,16 +18,16 @@ memory_refused ids_out e h = subst (IsGrowthRefusal ids_out) (sym h) tt
 module _ {D N S A H : Type 0} (has : H → S → Bool) where
   -- an answer for a package changes no list
   module _ (p : Provider N S) (may : MayAnswer N S A) where
-    pub asked_matching : (n : N) (c d : Cache D N S A H) → IsAsked p may has c n d → d.matching ≡ c.matching
-    asked_matching n c d h = by_kept (is_asked p c n) h
+    pub asked_matching : (n : N) (c d : Cache D N S A H) → IsQueried p may has c n d → d.matching ≡ c.matching
+    asked_matching n c d h = by_kept (is_queried p c n) h
       where
         by_kept : (b : Bool) → IsOnce b c (λ new. (answer : Candidates S A) × IsAnswer p may n answer × IsMarked p may has c (hints_of answer) new.hinted ×
             (new ≡ record c { candidates = c.candidates ++ (n, answer) ∷ []; hinted = new.hinted })) d → d.matching ≡ c.matching
         by_kept true h = ap (λ (x : Cache D N S A H). x.matching) h
         by_kept false h = ap (λ (x : Cache D N S A H). x.matching) h.3
 
-    pub asked_non_matching : (n : N) (c d : Cache D N S A H) → IsAsked p may has c n d → d.non_matching ≡ c.non_matching
-    asked_non_matching n c d h = by_kept (is_asked p c n) h
+    pub asked_non_matching : (n : N) (c d : Cache D N S A H) → IsQueried p may has c n d → d.non_matching ≡ c.non_matching
+    asked_non_matching n c d h = by_kept (is_queried p c n) h
       where
         by_kept : (b : Bool) → IsOnce b c (λ new. (answer : Candidates S A) × IsAnswer p may n answer × IsMarked p may has c (hints_of answer) new.hinted ×
             (new ≡ record c { candidates = c.candidates ++ (n, answer) ∷ []; hinted = new.hinted })) d → d.non_matching ≡ c.non_matching

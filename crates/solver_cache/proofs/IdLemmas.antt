@@ -5,7 +5,7 @@ use Rattle.std.specs.Prelude.{◌&&◌, ◌||◌, All}
 use Rattle.std.proofs.lemmas.Bool.Decides.{nat_tests}
 use Rattle.std.proofs.lemmas.List.Folds.{list_any_none}
 use Rattle.typed_ids.specs.declared.version_set_id.VersionSetId.{VersionSetId}
-use Rattle.solver_cache.specs.Cache.{Cache, IsCache, is_set_asked}
+use Rattle.solver_cache.specs.Cache.{Cache, IsCache, is_set_queried}
 use Rattle.solver_cache.specs.Functions.{Provider, MayAnswer}
 use Rattle.solver_cache.proofs.CacheLemmas.{some_of, found_right}
 
@@ -31,12 +31,12 @@ second_fails false b h = h
 module _ {D N S A H : Type 0} {may : MayAnswer N S A} (p : Provider N S) (c : Cache D N S A H) (is : IsCache p may c)
     (is_sameness : (a b : N) → p.same_name a b ≡ true → a ≡ b) where
   -- a name that was asked for isn't too large
-  asked_fits : (v : VersionSetId) → is_set_asked p c v ≡ true → p.is_large_name (p.universe.set_name v) ≡ false
-  asked_fits v asked =
+  asked_fits : (v : VersionSetId) → is_set_queried p c v ≡ true → p.is_large_name (p.universe.set_name v) ≡ false
+  asked_fits v queried =
       let n = p.universe.set_name v in
-      let found = some_of _ asked in
+      let found = some_of _ queried in
       found_right p.same_name is_sameness (λ m answer. p.is_large_name m ≡ false) n found.0 c.candidates is.fits found.1
 
   -- nor is any of several
-  pub all_asked_fit : (vs : List VersionSetId) → All (λ v. is_set_asked p c v ≡ true) vs → list_any (λ v. p.is_large_name (p.universe.set_name v)) vs ≡ false
-  all_asked_fit vs asked = list_any_none (λ v. p.is_large_name (p.universe.set_name v)) vs (λ k d lt. asked_fits (get_or vs k d) (asked k d lt))
+  pub all_asked_fit : (vs : List VersionSetId) → All (λ v. is_set_queried p c v ≡ true) vs → list_any (λ v. p.is_large_name (p.universe.set_name v)) vs ≡ false
+  all_asked_fit vs queried = list_any_none (λ v. p.is_large_name (p.universe.set_name v)) vs (λ k d lt. asked_fits (get_or vs k d) (queried k d lt))

@@ -7,22 +7,22 @@ use Rattle.providers.specs.Requirement.{same_requirement}
 use Rattle.providers.specs.contracts.requirement.RequirementPartialEq.TheImpl.{eq-value}
 use Rattle.providers.specs.declared.candidates.Candidates.{Candidates}
 use Rattle.providers.specs.declared.requirement.Requirement.{Requirement}
-use Rattle.solver_cache.specs.Cache.{Cache, IsAnswer, is_asked, is_kept, same_set}
+use Rattle.solver_cache.specs.Cache.{Cache, IsAnswer, is_queried, is_cached, same_set}
 use Rattle.solver_cache.specs.Functions.{Provider, MayAnswer}
 use Rattle.solver_cache.specs.Hints.{hints_of}
-use Rattle.solver_cache.specs.Questions.{IsLater, IsOnce, IsMarked, IsAsked, IsMatched}
+use Rattle.solver_cache.specs.Questions.{IsLater, IsOnce, IsMarked, IsQueried, IsMatched}
 use Rattle.solver_cache.proofs.CacheLemmas.{begins_same, begins_more, later_trans, same_is}
 
 -- a requirement that isn't found isn't kept
 pub not_kept : {V : Type 0} (r : Requirement) (es : List (Requirement × V)) →
-    false ≡ is_some (lookup (eq-value.it r) es) → is_kept (same_requirement r) es ≡ false
-not_kept r es h = ap (λ t. is_kept t es) (sym (same_is r)) ∙ sym h
+    false ≡ is_some (lookup (eq-value.it r) es) → is_cached (same_requirement r) es ≡ false
+not_kept r es h = ap (λ t. is_cached t es) (sym (same_is r)) ∙ sym h
 
 module _ {D N S A H : Type 0} (has : H → S → Bool) where
   -- the candidates that a version set holds are found without a sorted list
   module _ (p : Provider N S) (may : MayAnswer N S A) where
-    asked_sorted : (n : N) (c d : Cache D N S A H) → IsAsked p may has c n d → d.sorted ≡ c.sorted
-    asked_sorted n c d h = by_kept (is_asked p c n) h
+    asked_sorted : (n : N) (c d : Cache D N S A H) → IsQueried p may has c n d → d.sorted ≡ c.sorted
+    asked_sorted n c d h = by_kept (is_queried p c n) h
       where
         by_kept : (b : Bool) → IsOnce b c (λ new. (answer : Candidates S A) × IsAnswer p may n answer × IsMarked p may has c (hints_of answer) new.hinted ×
             (new ≡ record c { candidates = c.candidates ++ (n, answer) ∷ []; hinted = new.hinted })) d → d.sorted ≡ c.sorted
@@ -30,9 +30,9 @@ module _ {D N S A H : Type 0} (has : H → S → Bool) where
         by_kept false h = ap (λ (x : Cache D N S A H). x.sorted) h.3
 
     pub matched_sorted : (v : VersionSetId) (c d : Cache D N S A H) → IsMatched p may has c v d → d.sorted ≡ c.sorted
-    matched_sorted v c d h = by_kept (is_kept (same_set v) c.matching) h
+    matched_sorted v c d h = by_kept (is_cached (same_set v) c.matching) h
       where
-        by_kept : (b : Bool) → IsOnce b c (λ new. (mid : Cache D N S A H) × IsAsked p may has c (p.universe.set_name v) mid ×
+        by_kept : (b : Bool) → IsOnce b c (λ new. (mid : Cache D N S A H) × IsQueried p may has c (p.universe.set_name v) mid ×
             (new ≡ record mid { matching = mid.matching ++ (v, matching p.universe p.answers v) ∷ [] })) d → d.sorted ≡ c.sorted
         by_kept true h = ap (λ (x : Cache D N S A H). x.sorted) h
         by_kept false h = ap (λ (x : Cache D N S A H). x.sorted) h.2 ∙ asked_sorted (p.universe.set_name v) c h.0 h.1

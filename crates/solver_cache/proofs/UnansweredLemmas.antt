@@ -2,10 +2,10 @@
 use Rattle.std.proofs.Common.{◌≡◌, ℕ, ◌<◌, ◌+◌, Bool, List, [], ◌∷◌, ◌++◌, length, take, drop, get_or, ◌∙◌, ap, refl, sym, subst, inl, inr}
 use Rattle.std.proofs.lemmas.List.{append-nil, append_assoc, take_more, take-append-drop}
 use Rattle.typed_ids.specs.declared.version_set_id.VersionSetId.{VersionSetId}
-use Rattle.solver_cache.specs.Cache.{Cache, is_set_asked}
+use Rattle.solver_cache.specs.Cache.{Cache, is_set_queried}
 use Rattle.solver_cache.specs.Functions.{Provider, MayAnswer}
 use Rattle.solver_cache.specs.Questions.{AreSorted, IsRefusedOf}
-use Rattle.solver_cache.specs.Unanswered.{IsUnsorted, AreUnsorted, AreStopped, AreLeft}
+use Rattle.solver_cache.specs.Unanswered.{IsUnsorted, AreUnsorted, AreStopped, AreCutShort}
 use Rattle.solver_cache.specs.declared.error.CacheError.{CacheError}
 use Rattle.solver_cache.specs.declared.error.CacheError.TheVariants.{Store, Cancelled}
 
@@ -32,7 +32,7 @@ module _ {D N S A H : Type 0} (p : Provider N S) (may : MayAnswer N S A) (has : 
 
   -- the only one was refused
   pub left_of_one : {C : Type 0} (lacks : Bool) (v : VersionSetId) (old new : Cache D N S A H) (e : CacheError C)
-      → IsRefusedOf (is_set_asked p old v) lacks old e new → IsUnsorted p may has old v new → AreLeft p may has (v ∷ []) old e new
+      → IsRefusedOf (is_set_queried p old v) lacks old e new → IsUnsorted p may has old v new → AreCutShort p may has (v ∷ []) old e new
   left_of_one lacks v old new (Cancelled reason) refused left = inl refused
   left_of_one lacks v old new (Store e) refused left = inl left
 
@@ -48,8 +48,8 @@ module _ {D N S A H : Type 0} (p : Provider N S) (may : MayAnswer N S A) (has : 
     whole = sym (append_assoc (take i vs) (v ∷ []) behind) ∙ ap (λ l. l ++ behind) (sym (take_more vs i d lt)) ∙ take-append-drop (i + 1) vs
 
     -- one of several was refused
-    pub left_in_turn : {C : Type 0} (lacks : Bool) (e : CacheError C) → IsRefusedOf (is_set_asked p mid (get_or vs i d)) lacks mid e new
-        → IsUnsorted p may has mid (get_or vs i d) new → AreLeft p may has vs old e new
+    pub left_in_turn : {C : Type 0} (lacks : Bool) (e : CacheError C) → IsRefusedOf (is_set_queried p mid (get_or vs i d)) lacks mid e new
+        → IsUnsorted p may has mid (get_or vs i d) new → AreCutShort p may has vs old e new
     left_in_turn lacks (Cancelled reason) refused left =
         subst (λ l. AreStopped p may has old l new) whole (stopped_after (take i vs) (v ∷ behind) old mid new sorted (inl refused))
     left_in_turn lacks (Store e) refused left =

@@ -3,10 +3,10 @@
 use Rattle.std.specs.Prelude.{◌≡◌, Bool, true, false, ◌⊎◌, List, [], ◌∷◌}
 use Rattle.typed_ids.specs.declared.version_set_id.VersionSetId.{VersionSetId}
 use Rattle.providers.specs.declared.candidates.Candidates.{Candidates}
-use Rattle.solver_cache.specs.Cache.{Cache, IsAnswer, is_set_asked}
+use Rattle.solver_cache.specs.Cache.{Cache, IsAnswer, is_set_queried}
 use Rattle.solver_cache.specs.Functions.{Provider, MayAnswer}
 use Rattle.solver_cache.specs.Hints.{hints_of, with_hints}
-use Rattle.solver_cache.specs.Questions.{IsAsked, IsMatched, IsSorted}
+use Rattle.solver_cache.specs.Questions.{IsQueried, IsMatched, IsSorted}
 use Rattle.solver_cache.specs.declared.error.CacheError.{CacheError}
 use Rattle.solver_cache.specs.declared.error.CacheError.TheVariants.{Store, Cancelled}
 
@@ -17,16 +17,16 @@ module _ {D N S A H : Type 0} (p : Provider N S) (may : MayAnswer N S A) (has : 
     IsPartlyMarked hints hinted =
         (s : S) → has hinted s ≡ true → with_hints p.same_solvable p.is_large_hint (has old.hinted) hints s ≡ true
 
-    -- no answer is kept for a package: nothing changed, or the provider answered, and hints of its answer may be marked
-    abbrev pub IsUnasked : N → Cache D N S A H → Type 0
-    IsUnasked n new = (new ≡ old) ⊎ ((answer : Candidates S A) × IsAnswer p may n answer ×
+    -- no answer is cached for a package: nothing changed, or the provider answered, and some hints of it may be marked
+    abbrev pub IsUnanswered : N → Cache D N S A H → Type 0
+    IsUnanswered n new = (new ≡ old) ⊎ ((answer : Candidates S A) × IsAnswer p may n answer ×
         IsPartlyMarked (hints_of answer) new.hinted × (new ≡ record old { hinted = new.hinted }))
 
-    -- no list is kept of what a version set holds, or doesn't: its package has no answer either, or has
+    -- no list is cached of what a version set holds, or doesn't: its package has no answer either, or has
     abbrev pub IsUnfiltered : VersionSetId → Cache D N S A H → Type 0
-    IsUnfiltered v new = IsUnasked (p.universe.set_name v) new ⊎ IsAsked p may has old (p.universe.set_name v) new
+    IsUnfiltered v new = IsUnanswered (p.universe.set_name v) new ⊎ IsQueried p may has old (p.universe.set_name v) new
 
-    -- none is kept of what it holds, best first: nor is one in the provider's order of listing, or it is
+    -- none is cached of what it holds, best first: nor is one in the provider's order of listing, or it is
     abbrev pub IsUnsorted : VersionSetId → Cache D N S A H → Type 0
     IsUnsorted v new = IsUnfiltered v new ⊎ IsMatched p may has old v new
 
@@ -36,13 +36,13 @@ module _ {D N S A H : Type 0} (p : Provider N S) (may : MayAnswer N S A) (has : 
   AreUnsorted old (v ∷ vs) new = IsUnsorted old v new ⊎
       ((mid : Cache D N S A H) × IsSorted p may has old v mid × AreUnsorted mid vs new)
 
-  -- version sets were answered in turn, up to one whose package wasn't asked for, and no more
+  -- version sets were answered in turn, up to one whose package wasn't queried, and no more
   abbrev pub AreStopped : Cache D N S A H → List VersionSetId → Cache D N S A H → Type 0
   AreStopped old [] new = ⊥
-  AreStopped old (v ∷ vs) new = ((is_set_asked p old v ≡ false) × (new ≡ old)) ⊎
+  AreStopped old (v ∷ vs) new = ((is_set_queried p old v ≡ false) × (new ≡ old)) ⊎
       ((mid : Cache D N S A H) × IsSorted p may has old v mid × AreStopped mid vs new)
 
-  -- whoever asked about version sets in turn was refused so
-  abbrev pub AreLeft : {C : Type 0} → List VersionSetId → Cache D N S A H → CacheError C → Cache D N S A H → Type 0
-  AreLeft vs old (Cancelled reason) new = AreStopped old vs new
-  AreLeft vs old (Store e) new = AreUnsorted old vs new
+  -- the questions about version sets in turn end with this refusal
+  abbrev pub AreCutShort : {C : Type 0} → List VersionSetId → Cache D N S A H → CacheError C → Cache D N S A H → Type 0
+  AreCutShort vs old (Cancelled reason) new = AreStopped old vs new
+  AreCutShort vs old (Store e) new = AreUnsorted old vs new

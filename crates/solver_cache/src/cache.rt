@@ -1,21 +1,21 @@
-//! The cache: what it keeps, and what it tells of it without asking anything.
+//! The cache: what it stores, and what it answers without a query to the provider.
 ghost use Rattle.std.specs.Prelude.{◌≡◌, false, []};
 
 mod answering;
-mod asking;
 mod filtering;
+mod querying;
 mod reading;
 mod sorting;
 
-use crate::kept_lists::KeptLists;
 use crate::provider_functions::ProviderFunctions;
+use crate::stored_lists::StoredLists;
 use id_maps::{IdMap, IdSet, SolverId};
-use id_storage::KeptAnswers;
+use id_storage::StoredAnswers;
 use providers::{Candidates, Dependencies, DependencyProvider, Interner, Requirement};
 use std::marker::Model;
 use typed_ids::{CandidatesId, DependenciesId, VersionSetId};
 
-/// What a solver asked a provider, with the answers.
+/// The queries of a solver to a provider, with the answers.
 ///
 /// A question whose answer is kept is answered again by one look-up: it is never refused, takes no memory and changes
 /// nothing. After a refusal the questions that were answered before are kept, and some hints of the package that was
@@ -23,13 +23,18 @@ use typed_ids::{CandidatesId, DependenciesId, VersionSetId};
 #[derive(Drop)]
 pub struct SolverCache<D: DependencyProvider> {
     provider: D,
-    candidates: KeptAnswers<CandidatesId, D::NameId, Candidates<D::SolvableId, D::Alloc>, D::Alloc>,
+    candidates: StoredAnswers<
+        CandidatesId,
+        D::NameId,
+        Candidates<D::SolvableId, D::Alloc>,
+        D::Alloc,
+    >,
     /// The candidates that a version set holds.
-    matching: KeptLists<VersionSetId, D::SolvableId, D::Alloc>,
+    matching: StoredLists<VersionSetId, D::SolvableId, D::Alloc>,
     /// The candidates that it doesn't hold.
-    non_matching: KeptLists<VersionSetId, D::SolvableId, D::Alloc>,
-    sorted: KeptLists<Requirement, D::SolvableId, D::Alloc>,
-    dependencies: KeptAnswers<DependenciesId, D::SolvableId, Dependencies<D::Alloc>, D::Alloc>,
+    non_matching: StoredLists<VersionSetId, D::SolvableId, D::Alloc>,
+    sorted: StoredLists<Requirement, D::SolvableId, D::Alloc>,
+    dependencies: StoredAnswers<DependenciesId, D::SolvableId, Dependencies<D::Alloc>, D::Alloc>,
     /// The solvables whose dependencies were said to be available.
     hinted: <D::SolvableId as SolverId<D::Alloc>>::Set,
     alloc: D::Alloc,
@@ -67,7 +72,7 @@ impl<D: DependencyProvider> Model for SolverCache<D> {
 impl<D: DependencyProvider + Drop> SolverCache<D> {
     ghost use Rattle.solver_cache.specs.Cache.{IsCache, is_available};
 
-    /// The cache that was asked nothing. Takes no memory.
+    /// A cache without queries and answers. Takes no memory.
     pub fn new(alloc: D::Alloc, provider: D) -> Self
         ensures provider { result.provider ≡ provider }
         ensures nothing { (result.candidates ≡ []) × (result.matching ≡ []) × (result.non_matching ≡ []) ×
@@ -76,11 +81,11 @@ impl<D: DependencyProvider + Drop> SolverCache<D> {
     {
         SolverCache {
             provider,
-            candidates: KeptAnswers::new(alloc),
-            matching: KeptLists::new(alloc),
-            non_matching: KeptLists::new(alloc),
-            sorted: KeptLists::new(alloc),
-            dependencies: KeptAnswers::new(alloc),
+            candidates: StoredAnswers::new(alloc),
+            matching: StoredLists::new(alloc),
+            non_matching: StoredLists::new(alloc),
+            sorted: StoredLists::new(alloc),
+            dependencies: StoredAnswers::new(alloc),
             hinted: <<D::SolvableId as SolverId<D::Alloc>>::Set as IdSet<
                 D::SolvableId,
                 D::Alloc,
@@ -92,13 +97,13 @@ impl<D: DependencyProvider + Drop> SolverCache<D> {
     /// The provider.
     pub fn provider(&self) -> &D
         ensures provider { result.now ≡ self.now.provider }
-        ensures kept { IsCache (⟦<D as ProviderFunctions>⟧.functions self.now.provider)
+        ensures cached { IsCache (⟦<D as ProviderFunctions>⟧.functions self.now.provider)
             (D.may_answer self.now.provider) self.now }
     {
         &self.provider
     }
 
-    /// Whether the dependencies of a solvable are at hand: they were asked for, or a package's answer said that they
+    /// Whether the dependencies of a solvable are at hand: they were queried, or a package's answer said that they
     /// are available.
     pub fn are_dependencies_available_for(&self, solvable: D::SolvableId) -> bool
         ensures { result ≡ is_available (⟦<D as ProviderFunctions>⟧.functions self.now.provider) self.now

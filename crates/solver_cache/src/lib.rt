@@ -11,10 +11,10 @@
 //! `specs/Questions` of an answered question, `specs/Unanswered` of a refused one. `specs/Refused` says which refusals
 //! there may be, and `specs/CandidateLaws` what is true of the candidate lists of every provider.
 //!
-//! `cache` has the type, and in `cache/` are the questions. Those of `asking` are put to the provider, those of
+//! `cache` has the type, and in `cache/` are the questions. Those of `querying` are put to the provider, those of
 //! `filtering` and `sorting` are about version sets and requirements. Each answers an id, by which `reading` shows what
 //! is kept; `answering` does both in one call, and answers a reference. `candidates` asks the provider for a package's
-//! candidates, and `favored` puts the favored one first among others; `kept_lists` keeps lists by keys, and `hints`
+//! candidates, and `favored` puts the favored one first among others; `stored_lists` keeps lists by keys, and `hints`
 //! marks the solvables whose dependencies are at hand.
 #![tactic(auto)]
 
@@ -23,9 +23,9 @@ mod candidates;
 mod error;
 mod favored;
 mod hints;
-mod kept_lists;
 mod list_id;
 mod provider_functions;
+mod stored_lists;
 
 pub use cache::SolverCache;
 pub use error::CacheError;

@@ -38,7 +38,7 @@ range_at ranges v = slice_index_or ranges v.0 (record { name = 0; low = 0; high 
 abbrev pub union_at : List (List VersionSetId) → VersionSetUnionId → List VersionSetId
 union_at unions u = slice_index_or unions u.0 []
 
--- of so many version sets these are some
+-- these version sets are among the first `count`
 abbrev pub are_known : ℕ → List VersionSetId → Bool
 are_known count sets = list_all (λ v. nat_lt v.0 count) sets
 

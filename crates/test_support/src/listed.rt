@@ -55,7 +55,7 @@ pub(crate) fn sets_at<A: Allocator>(
     }
 }
 
-/// Whether all of the version sets are among so many.
+/// Whether all of the version sets are among the first `count`.
 pub(crate) fn all_below(sets: &[VersionSetId], count: usize) -> bool
     ensures { result ≡ are_known count sets.now }
 {

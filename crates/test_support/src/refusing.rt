@@ -2,7 +2,7 @@
 //!
 //! What is proved is that it keeps the contract of `Allocator`: a block that it answers is whole and nobody else's, and
 //! is freed only by the right that came with it, at its own size. Which request it refuses is only tested, since no
-//! contract can say what a `Cell` holds: `room_tests` has the test.
+//! contract can say what a `Cell` holds: `test_parts` has the test.
 
 use std::alloc::{AllocError, Allocator};
 use std::cell::Cell;

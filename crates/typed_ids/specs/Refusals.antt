@@ -30,6 +30,6 @@ IsGrowthRefusal ids_out _ = ⊥
 abbrev pub is_too_dense : ℕ → Bool
 is_too_dense index = nat_le (2 ^ 40) index
 
--- of ids that end before the limit none is left after the first so many
+-- of ids that end before the limit none is left after the first `count`
 abbrev pub are_ids_out : ℕ → ℕ → Bool
 are_ids_out limit count = nat_le (min limit (2 ^ 40)) count

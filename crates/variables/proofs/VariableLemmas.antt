@@ -80,11 +80,6 @@ slice_get-take (suc k) (suc v) (y ∷ xs) x h = (let rest = slice_get-take k v x
 
 -- ---- the root
 
--- it is no solvable
-pub distinct-root : {N S : Type 0} (same : S → S → Bool) → AreSolvablesDistinct {N = N} same (Root ∷ [])
-distinct-root same zero s h = (let no : ⊥ = cc in absurd no)
-distinct-root same (suc v) s h = (let no : ⊥ = cc in absurd no)
-
 -- it stays first while origins are added
 pub root-append : {N S : Type 0} (os : List (VariableOrigin N S)) (o : VariableOrigin N S) → IsRootFirst os → IsRootFirst (os ++ o ∷ [])
 root-append [] o h = cc

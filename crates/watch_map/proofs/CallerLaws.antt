@@ -6,7 +6,7 @@ use Rattle.decisions.specs.LiteralIndex.{literal_index}
 use Rattle.id_storage.specs.Mapping.{value_at}
 use Rattle.watch_map.specs.declared.watched_literals.WatchedLiterals.{WatchedLiterals}
 use Rattle.watch_map.specs.Laws.{SameRecordsBelong, RecordsGrow, NewClausesJoin, RecordsSkip}
-use Rattle.watch_map.specs.Laws.{RoomIsForFewer, CursorsDivide, ClausesAreMetOnce, CursorsOutliveRoom}
+use Rattle.watch_map.specs.Laws.{RoomIsForFewer, CursorsDivide, ClausesAreVisitedOnce, CursorsOutliveRoom}
 use Rattle.watch_map.specs.Watching.{is_clause_in, before, started}
 use Rattle.watch_map.specs.WatchLists.{Watches, record_of, literals_in, watched_by, next_in, link}
 use Rattle.watch_map.specs.WatchLists.{IsChain, watchers, HasRoom, IsPrevious, literal_of, clause_of}
@@ -81,7 +81,7 @@ room_is_for_fewer map l n k le room = room
 pub cursors_divide : CursorsDivide
 cursors_divide cursor map watches stands = split (clause_of cursor) (watchers map watches (literal_of cursor)) stands.member
 
-pub clauses_are_met_once : ClausesAreMetOnce
+pub clauses_are_met_once : ClausesAreVisitedOnce
 clauses_are_met_once cursor map watches stands clause h =
     go (passed cursor map watches) (subst (IsDistinct nat_eq) (cursors_divide cursor map watches stands) (stands.watched.exact.once (literal_of cursor)))
   where

@@ -15,13 +15,6 @@ use Rattle.watch_map.proofs.WatchingLaws.{same_is}
 
 -- ---- the largest
 
-pub largest_more : (bits : List (ℕ × ℕ × Bool)) (i : ℕ) (bit : ℕ × ℕ × Bool) (largest : ℕ) → i < length bits
-    → bit ≡ get_or bits i bit → largest ≡ largest_variable (take i bits)
-    → larger_variable largest bit ≡ largest_variable (take (i + 1) bits)
-largest_more bits i bit largest within is so_far =
-    ap (λ n. larger_variable n bit) so_far ∙ ap (larger_variable (largest_variable (take i bits))) is
-    ∙ sym (fold_more larger_variable 0 bits i bit within)
-
 no_smaller : (bits : List (ℕ × ℕ × Bool)) (least : ℕ) → least ≤ fold larger_variable least bits
 no_smaller [] least = omega arith
 no_smaller (bit ∷ bits) least = let more = no_smaller bits (larger_variable least bit) in omega (arith, more)

@@ -2,8 +2,8 @@ pub mod CallerLaws
 mod ChainLaws
 mod CountLaws
 mod CursorLaws
-pub mod ForcingLaws
-mod GivenLaws
+pub mod ImplicationLaws
+mod InputLaws
 mod LargestLaws
 mod LinkLaws
 pub mod ListCallerLaws
@@ -11,7 +11,7 @@ mod ListLaws
 pub mod ListSaturationLaws
 pub mod LiteralLists
 pub mod MarkLaws
-pub mod MetLaws
+pub mod SatisfiedLaws
 pub mod MarkedLists
 mod MoveLaws
 mod OpenClauses

@@ -16,7 +16,7 @@ use Rattle.std.proofs.lemmas.Bool.{eqb-true, eqb-false}
 use Rattle.std.proofs.lemmas.List.{ext_get_or, get_or_default, length-map, length-set, map-append}
 use Rattle.typed_ids.specs.TotalMaps.{IsUpdate}
 use Rattle.decisions.specs.Literals.{Lit, Pos, Neg, Values}
-use Rattle.clauses.specs.Clauses.{Kept as KeptLiterals, same_literal, watch_pair, watch_beside, watch_ends}
+use Rattle.clauses.specs.Clauses.{StoredLiterals, same_literal, watch_pair, watch_beside, watch_ends}
 use Rattle.clauses.specs.declared.clause.Clause.{Clause}
 use Rattle.clauses.specs.declared.clause.Clause.TheVariants.{ForbidMultipleInstances}
 use Rattle.watch_map.specs.declared.watched_literals.WatchedLiterals.{WatchedLiterals}
@@ -26,7 +26,7 @@ use Rattle.watch_map.specs.WatchCalls.{SameLists, KeepsRoom, UsesRoom, HaveRoom,
 use Rattle.watch_map.proofs.WatchingLaws.{exact_same}
 use Rattle.watch_map.proofs.CallerLaws.{same_records_belong, new_clauses_join, records_skip, room_is_for_fewer}
 use Rattle.watch_map.specs.ClauseList.{Clauses, IsClauseList, is_full, is_learnt_full, literals_watched, two_or_none}
-use Rattle.watch_map.specs.ClauseList.{rewatched, with_clause, with_rewatched, can_rewatch, contents, Kept}
+use Rattle.watch_map.specs.ClauseList.{rewatched, with_clause, with_rewatched, can_rewatch, contents, ClauseListState}
 use Rattle.watch_map.specs.ClauseList.{helper_literal, bit_watches, with_forbidden_one, with_forbidden}
 use Rattle.watch_map.specs.ClauseList.{HasRoomFor, HasRoom as HasRoomOf, KeepsRoom as KeepsRoomOf}
 use Rattle.watch_map.specs.Walks.{StartsAtEnd, IsRewatched, may_rewatch}
@@ -71,7 +71,7 @@ something_starts old new w clause starts ws watched = new_clauses_join old new w
 
 -- ---- a moved watch, in the records
 
-module _ (map map' : WatchLists) (ws ws' : Watches) (to : Lit) (at : Position) (given : AreWatched map ws)
+module _ (map map' : WatchLists) (ws ws' : Watches) (to : Lit) (at : Position) (input : AreWatched map ws)
     (stands : StandsIn at map ws) (as_many : length ws' ≡ length ws)
     (moves : Moves at to map ws map' ws') where
   moved_here : IsRewatched map ws (clause_of at) (literal_of at) to map' ws'
@@ -81,7 +81,7 @@ module _ (map map' : WatchLists) (ws ws' : Watches) (to : Lit) (at : Position) (
     as_many = as_many;
     literals = subst (λ ls. IsUpdate (watched_by ws) (clause_of at) ls (watched_by ws'))
         (rewatched_is (watched_by ws (clause_of at)) (index_of at) (literal_of at) to
-        (given.exact.two (clause_of at)) stands.within stands.watch) moves.literals;
+        (input.exact.two (clause_of at)) stands.within stands.watch) moves.literals;
   }
 
   pub rewatch_done : (clause : ℕ) (from : Lit) → clause_of at ≡ clause → literal_of at ≡ from → IsRewatched map ws clause from to map' ws'
@@ -136,19 +136,19 @@ module _ {N : Type 0} where
       ap (λ (f : Lit → List ℕ). record { clauses = cs; watches = map literals_in ws; learnt = learnt; watchers = f }) (fun_ext (same ws watched).1)
 
   pub pushed_contents : (cs : List (Clause N)) (ws : Watches) (learnt : List (List Lit)) (old new : WatchLists)
-      (clause : Clause N) (given made : Option WatchedLiterals)
-      → AreWatched old ws → length cs ≡ length ws → literals_in made ≡ literals_in given → StartsAtEnd old made (length cs) new
-      → contents_of (cs ++ clause ∷ []) (ws ++ made ∷ []) learnt new ≡ with_clause (contents_of cs ws learnt old) clause (literals_watched given)
-  pushed_contents cs ws learnt old new clause given made watched as_many same starts =
-      let literals : literals_in made ≡ two_or_none (literals_watched given) = same ∙ literals_are given in
+      (clause : Clause N) (input made : Option WatchedLiterals)
+      → AreWatched old ws → length cs ≡ length ws → literals_in made ≡ literals_in input → StartsAtEnd old made (length cs) new
+      → contents_of (cs ++ clause ∷ []) (ws ++ made ∷ []) learnt new ≡ with_clause (contents_of cs ws learnt old) clause (literals_watched input)
+  pushed_contents cs ws learnt old new clause input made watched as_many same starts =
+      let literals : literals_in made ≡ two_or_none (literals_watched input) = same ∙ literals_are input in
       let f : List (List Lit) → (Lit → List ℕ) → Clauses N = λ watches lists.
       record { clauses = cs ++ clause ∷ []; watches = watches; learnt = learnt; watchers = lists } in
-      let records : map literals_in (ws ++ made ∷ []) ≡ map literals_in ws ++ two_or_none (literals_watched given) ∷ [] =
+      let records : map literals_in (ws ++ made ∷ []) ≡ map literals_in ws ++ two_or_none (literals_watched input) ∷ [] =
       map-append literals_in ws (made ∷ []) ∙ ap (λ w. map literals_in ws ++ w ∷ []) literals in
-      let lists : watchers new (ws ++ made ∷ []) ≡ started (length cs) (two_or_none (literals_watched given)) (watchers old ws) =
+      let lists : watchers new (ws ++ made ∷ []) ≡ started (length cs) (two_or_none (literals_watched input)) (watchers old ws) =
       fun_ext (starts ws watched as_many).1 ∙ ap (λ w. started (length cs) w (watchers old ws)) literals in
       ap (λ watches. f watches (watchers new (ws ++ made ∷ []))) records
-      ∙ ap (f (map literals_in ws ++ two_or_none (literals_watched given) ∷ [])) lists
+      ∙ ap (f (map literals_in ws ++ two_or_none (literals_watched input) ∷ [])) lists
 
   -- the same clauses and records, and lists that show the same
   pub seen_alike : (cs cs' : List (Clause N)) (ws ws' : Watches) (learnt : List (List Lit)) (old new : WatchLists) → AreWatched old ws
@@ -158,7 +158,7 @@ module _ {N : Type 0} where
       ∙ ap (λ (r : Watches). contents_of cs r learnt new) same_records ∙ same_contents cs ws learnt old new watched same
 
   -- what a clause may watch in the place of one, by its record
-  pub can_rewatch_is : (k : Kept N) (clause : ℕ) (from to : Lit) → can_rewatch (contents k) clause from to ≡ may_rewatch k.records clause from to
+  pub can_rewatch_is : (k : ClauseListState N) (clause : ℕ) (from to : Lit) → can_rewatch (contents k) clause from to ≡ may_rewatch k.records clause from to
   can_rewatch_is k clause from to = ap (λ ls. is_literal_in from ls && not (is_literal_in to ls)) (literals_at k.records clause)
 
   -- ---- a watch moved
@@ -271,7 +271,7 @@ literal_of_sign h true = refl
 literal_of_sign h false = refl
 
 -- what a clause of two literals watches follows from these alone
-abbrev pub no_literals : KeptLiterals
+abbrev pub no_literals : StoredLiterals
 no_literals = record { learnt = []; lists = λ r. []; disjunctions = [] }
 
 abbrev pub no_values : Values
@@ -279,7 +279,7 @@ no_values v = None
 
 module _ {N : Type 0} where
   -- the same clauses, with the same room or more
-  pub room_stays : (old new : Kept N) → new.clauses ≡ old.clauses → old.clause_room ≤ new.clause_room → old.record_room ≤ new.record_room
+  pub room_stays : (old new : ClauseListState N) → new.clauses ≡ old.clauses → old.clause_room ≤ new.clause_room → old.record_room ≤ new.record_room
       → KeepsRoom old.lists new.lists → KeepsRoomOf old new
   room_stays old new same more_clauses more_records keeps = record {
     one = λ watched room. record {
@@ -298,7 +298,7 @@ module _ {N : Type 0} where
     };
   }
 
-  pub room_after : (count : ℕ) (bits : List (ℕ × ℕ × Bool)) (old new : Kept N) (literals : List Lit) → length new.clauses ≡ length old.clauses + 1
+  pub room_after : (count : ℕ) (bits : List (ℕ × ℕ × Bool)) (old new : ClauseListState N) (literals : List Lit) → length new.clauses ≡ length old.clauses + 1
       → new.clause_room ≡ old.clause_room → new.record_room ≡ old.record_room → UsesRoom literals old.lists new.lists
       → HasRoomFor (count + 1) bits old → HasRoomFor count bits new
   room_after count bits old new literals more same_clauses same_records uses room = record {
@@ -312,7 +312,7 @@ module _ {N : Type 0} where
   }
 
   -- ids, room in both vectors and room in the lists are room
-  pub room_is_made : {T E : Type 0} (result : Result T E) (old new : Kept N) (watched : List Lit) → is_full (contents old) ≡ false
+  pub room_is_made : {T E : Type 0} (result : Result T E) (old new : ClauseListState N) (watched : List Lit) → is_full (contents old) ≡ false
       → new.clauses ≡ old.clauses → length new.records ≡ length new.clauses → length new.clauses + 1 ≤ new.clause_room
       → length new.records + 1 ≤ new.record_room → OnOk result (HaveRoom new.lists watched) → OnOk result (HasRoomOf new watched)
   room_is_made (Err e) old new watched ids same as_many clauses records lists = tt
@@ -323,7 +323,7 @@ module _ {N : Type 0} where
     lists = lists;
   }
 
-  pub rooms_are_made : {T E : Type 0} (result : Result T E) (new : Kept N) (count : ℕ) (bits : List (ℕ × ℕ × Bool))
+  pub rooms_are_made : {T E : Type 0} (result : Result T E) (new : ClauseListState N) (count : ℕ) (bits : List (ℕ × ℕ × Bool))
       → length new.clauses + count ≤ 2 ^ 32 - 1 → length new.records ≡ length new.clauses → length new.clauses + count ≤ new.clause_room
       → length new.records + count ≤ new.record_room → OnOk result (All (λ bit. HaveRooms new.lists count (two_or_none (bit_watches bit))) bits)
       → OnOk result (HasRoomFor count bits new)
@@ -336,7 +336,7 @@ module _ {N : Type 0} where
   }
 
   -- room for some, of which this is one, is room for it
-  pub room_for_one : (count : ℕ) (bits : List (ℕ × ℕ × Bool)) (kept : Kept N) (i : ℕ) → 0 < count → i < length bits → HasRoomFor count bits kept
+  pub room_for_one : (count : ℕ) (bits : List (ℕ × ℕ × Bool)) (kept : ClauseListState N) (i : ℕ) → 0 < count → i < length bits → HasRoomFor count bits kept
       → HasRoomOf kept (two_or_none (bit_watches (get_or bits i (0, 0, false))))
   room_for_one count bits kept i some within room = record {
     id = (let ids = room.ids in grind (arith, nat_tests, ids, some));
@@ -347,7 +347,7 @@ module _ {N : Type 0} where
         (0, 0, false) within room.lists l among);
   }
 
-  pub room_for_item : (count : ℕ) (bits : List (ℕ × ℕ × Bool)) (kept : Kept N) (i : ℕ) (bit : ℕ × ℕ × Bool)
+  pub room_for_item : (count : ℕ) (bits : List (ℕ × ℕ × Bool)) (kept : ClauseListState N) (i : ℕ) (bit : ℕ × ℕ × Bool)
       (watched : Option (List Lit)) → 0 < count → i < length bits
       → bit ≡ get_or bits i bit → watched ≡ bit_watches bit → HasRoomFor count bits kept → HasRoomOf kept (two_or_none watched)
   room_for_item count bits kept i bit watched some within is watches room =

@@ -12,9 +12,9 @@ use Rattle.decisions.specs.Literals.{Lit, Pos, Neg, Values, variable_of, is_fals
 use Rattle.decisions.specs.Trail.{Entry, Trail, val, level_of}
 use Rattle.clauses.specs.Clauses.{same_literal}
 use Rattle.watch_map.specs.Watching.{is_literal_in}
-use Rattle.watch_map.specs.Forcing.{is_false, forces, IsSettled}
-use Rattle.watch_map.specs.Saturation.{HasForced}
-use Rattle.watch_map.specs.WatchInvariant.{is_true_literal, is_true, has_true_beside, AreMet, KeepsMet, val_before}
+use Rattle.watch_map.specs.Implication.{is_false, is_unit, IsSettled}
+use Rattle.watch_map.specs.Saturation.{HasImplied}
+use Rattle.watch_map.specs.WatchInvariant.{is_true_literal, is_true, has_true_beside, AreWatchesSatisfied, KeepWatchesSatisfied, val_before}
 use Rattle.watch_map.specs.Visits.{AreUnwatchedTrue}
 use Rattle.watch_map.specs.Marks.{IsMark, AreMarks, beginning, newest_mark, is_from}
 use Rattle.watch_map.specs.Marks.{marks_below, not_false_at, none_false_at, IsRemembered}
@@ -23,9 +23,9 @@ use Rattle.watch_map.specs.declared.marks.Limit.TheVariants.{Place, Level}
 use Rattle.watch_map.proofs.WatchingLaws.{same_is}
 use Rattle.watch_map.proofs.LiteralLists.{by_test, all_at, any_at, passes_of}
 use Rattle.watch_map.proofs.ValueLaws.{true_is_not_false, false_kept, before_extends}
-use Rattle.watch_map.proofs.ForcingLaws.{forces_parts, forces_untrue, forced_longer, forced_take}
+use Rattle.watch_map.proofs.ImplicationLaws.{forces_parts, forces_untrue, forced_longer, forced_take}
 use Rattle.watch_map.proofs.OpenClauses.{is_true_kept}
-use Rattle.watch_map.proofs.MetLaws.{met_kept, met_at_start}
+use Rattle.watch_map.proofs.SatisfiedLaws.{met_kept, met_at_start}
 
 -- ---- a true clause
 
@@ -35,7 +35,7 @@ true_is_settled now ls t =
     let p = passes_of (is_true_literal now) ls t in (
       false_from_ne_true (is_false now ls)
           (λ all. true_is_not_false now p.literal p.passes (all_at (is_false_literal now) ls p.literal all p.within)),
-      λ l. false_from_ne_true (forces now ls l)
+      λ l. false_from_ne_true (is_unit now ls l)
           (λ f. forces_untrue now ls l (forces_parts now ls l f) p.literal p.within p.passes),
     )
 
@@ -114,7 +114,7 @@ module _ (literals watched : ℕ → List Lit) where
   pub beginning_is_mark : (es : List Entry) → IsMark literals watched es beginning
   beginning_is_mark es = record {
     within = omega arith;
-    met = met_at_start es (val_before 0 es) watched;
+    satisfied = met_at_start es (val_before 0 es) watched;
     unwatched = λ c h none. absurd (omega (arith, h));
     levels = λ x. omega arith;
   }
@@ -126,10 +126,10 @@ module _ (literals watched : ℕ → List Lit) where
 
   -- a saturation may begin at one
   pub mark_begins : (es : List Entry) (mark : Mark) → IsMark literals watched es mark
-      → AreMet (val_before mark.place es) (val es) watched
+      → AreWatchesSatisfied (val_before mark.place es) (val es) watched
   mark_begins es mark is =
       met_kept (val_before mark.place es) (val_before mark.place es) (val es) watched
-      (before_extends es mark.place) is.met
+      (before_extends es mark.place) is.satisfied
 
   -- and need not visit the clauses below its bound
   pub mark_unwatched : (es : List Entry) (mark : Mark) → IsMark literals watched es mark
@@ -139,14 +139,14 @@ module _ (literals watched : ℕ → List Lit) where
       (is.unwatched c h none)
 
   -- its end is one
-  pub mark_made : (es : List Entry) (clauses level : ℕ) → AreMet (val es) (val es) watched
+  pub mark_made : (es : List Entry) (clauses level : ℕ) → AreWatchesSatisfied (val es) (val es) watched
       → AreUnwatchedTrue literals watched clauses (val es) → ((x : ℕ) → level_of es x ≤ level)
       → IsMark literals watched es (record { place = length es; clauses = clauses; level = level })
-  mark_made es clauses level met unwatched levels =
+  mark_made es clauses level satisfied unwatched levels =
       let whole : take (length es) es ≡ es = take_all (length es) es (omega arith) in
       record {
         within = omega arith;
-        met = subst (λ (xs : List Entry). AreMet (val xs) (val xs) watched) (sym whole) met;
+        satisfied = subst (λ (xs : List Entry). AreWatchesSatisfied (val xs) (val xs) watched) (sym whole) satisfied;
         unwatched = subst (λ (xs : List Entry). AreUnwatchedTrue literals watched clauses (val xs))
             (sym whole) unwatched;
         levels = subst (λ (xs : List Entry). (x : ℕ) → level_of xs x ≤ level) (sym whole) levels;
@@ -157,7 +157,7 @@ module _ (literals watched : ℕ → List Lit) where
       → IsMark literals watched es mark → IsMark literals watched fs mark
   mark_same es fs mark same within is = record {
     within = within;
-    met = subst (λ (xs : List Entry). AreMet (val xs) (val xs) watched) (sym same) is.met;
+    satisfied = subst (λ (xs : List Entry). AreWatchesSatisfied (val xs) (val xs) watched) (sym same) is.satisfied;
     unwatched = subst (λ (xs : List Entry). AreUnwatchedTrue literals watched mark.clauses (val xs))
         (sym same) is.unwatched;
     levels = subst (λ (xs : List Entry). (x : ℕ) → level_of xs x ≤ mark.level) (sym same) is.levels;
@@ -204,10 +204,10 @@ pub mark_kept : (literals literals' watched watched' : ℕ → List Lit) (es : L
     → IsMark literals watched es mark → IsMark literals' watched' es mark
 mark_kept literals literals' watched watched' es mark own none same is = record {
   within = is.within;
-  met = λ c w there f.
+  satisfied = λ c w there f.
       let alike = same c w there f in
       subst (λ ws. has_true_beside (val_before mark.place es) ws w ≡ true) (sym alike)
-      (is.met c w (subst (λ ws. is_literal_in w ws ≡ true) alike there) f);
+      (is.satisfied c w (subst (λ ws. is_literal_in w ws ≡ true) alike there) f);
   unwatched = λ c h gone.
       let p = passes_of (is_true_literal (val_before mark.place es)) (literals c) (is.unwatched c h (none c gone)) in
       any_at (is_true_literal (val_before mark.place es)) (literals' c) p.literal (own c p.literal p.within) p.passes;
@@ -217,8 +217,8 @@ mark_kept literals literals' watched watched' es mark own none same is = record 
 -- ---- a saturation
 
 -- what it is given as marks are marks of what it leaves
-module _ (literals watched watched' : ℕ → List Lit) (level : ℕ) (a b : Trail) (f : HasForced literals level a b)
-    (keeps : KeepsMet (val a.entries) watched watched')
+module _ (literals watched watched' : ℕ → List Lit) (level : ℕ) (a b : Trail) (f : HasImplied literals level a b)
+    (keeps : KeepWatchesSatisfied (val a.entries) watched watched')
     (as_many : (c : ℕ) → length (watched' c) ≡ length (watched c)) where
   none_before : (ws vs : List Lit) → length ws ≡ length vs → ws ≡ [] → vs ≡ []
   none_before ws [] e none = refl
@@ -231,7 +231,7 @@ module _ (literals watched watched' : ℕ → List Lit) (level : ℕ) (a b : Tra
       (let within = is.within in let longer = forced_longer literals level a b f in omega (arith, within, longer))
       (record {
         within = is.within;
-        met = keeps (val_before mark.place a.entries) (val_before mark.place a.entries) before before is.met;
+        satisfied = keeps (val_before mark.place a.entries) (val_before mark.place a.entries) before before is.satisfied;
         unwatched = λ c h none. is.unwatched c h (none_before (watched' c) (watched c) (as_many c) none);
         levels = is.levels;
       })

@@ -11,17 +11,17 @@ use Rattle.decisions.specs.declared.decision.Decision.{Decision}
 use Rattle.decisions.specs.Trail.{Entry, Trail, val}
 use Rattle.clauses.specs.Clauses.{same_literal}
 use Rattle.watch_map.specs.Watching.{is_literal_in, AreTwoOrNone}
-use Rattle.watch_map.specs.Forcing.{IsSettled, AreSettled}
+use Rattle.watch_map.specs.Implication.{IsSettled, AreSettled}
 use Rattle.watch_map.specs.WatchLists.{WatchLists, Watches, watched_by, AreWatched}
-use Rattle.watch_map.specs.Saturation.{WatchOwn, HasForced, IsRearranged}
-use Rattle.watch_map.specs.WatchInvariant.{refuted_literal, AreMet, AreMetBut, KeepsMet, val_before}
+use Rattle.watch_map.specs.Saturation.{WatchOwn, HasImplied, IsRearranged}
+use Rattle.watch_map.specs.WatchInvariant.{refuted_literal, AreWatchesSatisfied, AreWatchesSatisfiedBut, KeepWatchesSatisfied, val_before}
 use Rattle.watch_map.specs.Visits.{AreUnwatchedSettled, AreAllSettled}
 use Rattle.watch_map.proofs.WatchingLaws.{same_self}
 use Rattle.watch_map.proofs.OpenClauses.{count_open}
 use Rattle.watch_map.proofs.ValueLaws.{extends_on}
 use Rattle.watch_map.proofs.UnwatchedLaws.{one_more}
-use Rattle.watch_map.proofs.ForcingLaws.{forced_extends, forced_longer, forced_same, forced_before, forced_fewer}
-use Rattle.watch_map.proofs.MetLaws.{met_kept, met_one_more, met_not_false, met_not_forcing}
+use Rattle.watch_map.proofs.ImplicationLaws.{forced_extends, forced_longer, forced_same, forced_before, forced_fewer}
+use Rattle.watch_map.proofs.SatisfiedLaws.{met_kept, met_one_more, met_not_false, met_not_forcing}
 
 -- where no conflict was found
 pub none_case : {X : Type 0} (A : Type 0) (B : X → Type 0) (o : Option X) → MatchOption o A B → is_some o ≡ false → A
@@ -71,9 +71,9 @@ pub record IsPropagated (literals : ℕ → List Lit) (level : ℕ) (t : Trail) 
   pub within : place ≤ length t'.entries
   pub watched : AreWatched map watches
   pub rearranged : IsRearranged literals w (watched_by watches)
-  pub forced : HasForced literals level t t'
-  pub met : AreMet (val_before place t'.entries) (val t'.entries) (watched_by watches)
-  pub kept : KeepsMet (val t.entries) w (watched_by watches)
+  pub implied : HasImplied literals level t t'
+  pub satisfied : AreWatchesSatisfied (val_before place t'.entries) (val t'.entries) (watched_by watches)
+  pub kept : KeepWatchesSatisfied (val t.entries) w (watched_by watches)
 
 pub rearranged_then : (literals a b c : ℕ → List Lit) → IsRearranged literals a b → IsRearranged literals b c
     → IsRearranged literals a c
@@ -83,11 +83,11 @@ module _ (literals : ℕ → List Lit) (level : ℕ) where
   -- once the literal that the entry at a place makes false was walked, the place after it is reached
   pub place_reached : (a b : Trail) (place : ℕ) (l : Lit) (watched : ℕ → List Lit) → place < length a.entries
       → ((e : Entry) → slice_get a.entries place ≡ Some e → l ≡ refuted_literal e.decision)
-      → HasForced literals level a b
-      → AreMet (val_before place a.entries) (val a.entries) watched → AreMetBut [] l (val b.entries) watched
-      → AreMet (val_before (place + 1) b.entries) (val b.entries) watched
+      → HasImplied literals level a b
+      → AreWatchesSatisfied (val_before place a.entries) (val a.entries) watched → AreWatchesSatisfiedBut [] l (val b.entries) watched
+      → AreWatchesSatisfied (val_before (place + 1) b.entries) (val b.entries) watched
   place_reached a b place l watched within is_l f met_by_a one =
-      let met = met_kept (val_before place a.entries) (val a.entries) (val b.entries) watched
+      let satisfied = met_kept (val_before place a.entries) (val a.entries) (val b.entries) watched
       (forced_extends literals level a b f) met_by_a in
       let has = has_entry a.entries place within in
       let e = has.0 in
@@ -95,35 +95,35 @@ module _ (literals : ℕ → List Lit) (level : ℕ) where
       (entry_kept a.entries f.added place e has.1) in
       let as_before = forced_before literals level a b f place (omega (arith, within)) in
       met_one_more b.entries place e (val b.entries) watched there
-      (subst (λ (v : Values). AreMet v (val b.entries) watched) (sym as_before) met)
-      (subst (λ x. AreMetBut [] x (val b.entries) watched) (is_l e has.1) one)
+      (subst (λ (v : Values). AreWatchesSatisfied v (val b.entries) watched) (sym as_before) satisfied)
+      (subst (λ x. AreWatchesSatisfiedBut [] x (val b.entries) watched) (is_l e has.1) one)
 
   -- what is kept by each of two steps is kept by both
-  pub keeps_then : (a b : Trail) (w w' w'' : ℕ → List Lit) → HasForced literals level a b
-      → KeepsMet (val a.entries) w w' → KeepsMet (val b.entries) w' w'' → KeepsMet (val a.entries) w w''
-  keeps_then a b w w' w'' f first second before seen ex ex_seen met =
+  pub keeps_then : (a b : Trail) (w w' w'' : ℕ → List Lit) → HasImplied literals level a b
+      → KeepWatchesSatisfied (val a.entries) w w' → KeepWatchesSatisfied (val b.entries) w' w'' → KeepWatchesSatisfied (val a.entries) w w''
+  keeps_then a b w w' w'' f first second before seen ex ex_seen satisfied =
       let grown = forced_extends literals level a b f in
       second before seen (extends_on before (val a.entries) (val b.entries) ex grown)
-      (extends_on seen (val a.entries) (val b.entries) ex_seen grown) (first before seen ex ex_seen met)
+      (extends_on seen (val a.entries) (val b.entries) ex_seen grown) (first before seen ex ex_seen satisfied)
 
   -- what is met at all entries is met at the place behind them
-  pub place_kept : (a b : Trail) (watched : ℕ → List Lit) → HasForced literals level a b
-      → AreMet (val a.entries) (val a.entries) watched
-      → AreMet (val_before (length a.entries) b.entries) (val b.entries) watched
-  place_kept a b watched f met =
+  pub place_kept : (a b : Trail) (watched : ℕ → List Lit) → HasImplied literals level a b
+      → AreWatchesSatisfied (val a.entries) (val a.entries) watched
+      → AreWatchesSatisfied (val_before (length a.entries) b.entries) (val b.entries) watched
+  place_kept a b watched f satisfied =
       let same : val_before (length a.entries) b.entries ≡ val a.entries =
       forced_before literals level a b f (length a.entries) (omega arith)
       ∙ ap val (take_all (length a.entries) a.entries (omega arith)) in
-      subst (λ (v : Values). AreMet v (val b.entries) watched) (sym same)
-      (met_kept (val a.entries) (val a.entries) (val b.entries) watched (forced_extends literals level a b f) met)
+      subst (λ (v : Values). AreWatchesSatisfied v (val b.entries) watched) (sym same)
+      (met_kept (val a.entries) (val a.entries) (val b.entries) watched (forced_extends literals level a b f) satisfied)
 
 -- ---- the clauses that watch nothing
 
 module _ (literals : ℕ → List Lit) (level : ℕ) where
   -- one more was visited
-  pub one_more_visited : (t a b : Trail) (ids : List ℕ) (index id : ℕ) → HasForced literals level t a
+  pub one_more_visited : (t a b : Trail) (ids : List ℕ) (index id : ℕ) → HasImplied literals level t a
       → (length a.entries ≡ length t.entries → AreAllSettled literals (take index ids) (val a.entries))
-      → HasForced literals level a b
+      → HasImplied literals level a b
       → (length b.entries ≡ length a.entries → IsSettled (val b.entries) (literals id))
       → index < length ids → id ≡ get_or ids index id
       → length b.entries ≡ length t.entries → AreAllSettled literals (take (index + 1) ids) (val b.entries)
@@ -140,18 +140,18 @@ module _ (literals : ℕ → List Lit) (level : ℕ) where
 
 -- all clauses are settled
 pub all_settled : (literals watched : ℕ → List Lit) (clauses : ℕ) (now : Values) → ((c : ℕ) → AreTwoOrNone (watched c))
-    → WatchOwn literals watched → AreMet now now watched → AreUnwatchedSettled literals watched clauses now
+    → WatchOwn literals watched → AreWatchesSatisfied now now watched → AreUnwatchedSettled literals watched clauses now
     → AreSettled literals clauses now
-all_settled literals watched clauses now two own met unwatched c within = go (watched c) refl
+all_settled literals watched clauses now two own satisfied unwatched c within = go (watched c) refl
   where
     go : (ws : List Lit) → watched c ≡ ws → IsSettled now (literals c)
     go [] e = unwatched c within e
     go (w ∷ ws) e =
         let there : is_literal_in w (watched c) ≡ true = subst (λ xs. is_literal_in w xs ≡ true) (sym e)
         (or_left (same_literal w w) (is_literal_in w ws) (same_self w)) in (
-          met_not_false literals watched now two own met c w there,
+          met_not_false literals watched now two own satisfied c w there,
           met_not_forcing literals watched
-              now two own met c w there,
+              now two own satisfied c w there,
         )
 
 -- ---- what gets smaller
@@ -159,7 +159,7 @@ all_settled literals watched clauses now two own met unwatched c within = go (wa
 module _ (literals : ℕ → List Lit) (level clauses : ℕ)
     (within : (c : ℕ) (l : Lit) → is_literal_in l (literals c) ≡ true → c < clauses) where
   -- the next place, with what was added
-  pub place_smaller : (a b : Trail) (place : ℕ) → HasForced literals level a b → place < length a.entries
+  pub place_smaller : (a b : Trail) (place : ℕ) → HasImplied literals level a b → place < length a.entries
       → count_open literals clauses (val b.entries) + (length b.entries - (place + 1))
       < count_open literals clauses (val a.entries) + (length a.entries - place)
   place_smaller a b place f h =
@@ -168,7 +168,7 @@ module _ (literals : ℕ → List Lit) (level clauses : ℕ)
       omega (arith, fewer, longer, h)
 
   -- a round that added an entry
-  pub round_smaller : (a b d : Trail) → HasForced literals level a b → HasForced literals level b d
+  pub round_smaller : (a b d : Trail) → HasImplied literals level a b → HasImplied literals level b d
       → length d.entries ≢ length b.entries
       → count_open literals clauses (val d.entries) < count_open literals clauses (val a.entries)
   round_smaller a b d ab bd ne =

@@ -16,7 +16,7 @@ use Rattle.clauses.specs.Clauses.{same_literal}
 use Rattle.watch_map.specs.WatchLists.{WatchLists, Watches, literals_in, watched_by, AreUnwatchedBelow}
 use Rattle.watch_map.specs.WatchCalls.{SameLists}
 use Rattle.watch_map.specs.Walks.{IsRewatched}
-use Rattle.watch_map.specs.Forcing.{IsSettled}
+use Rattle.watch_map.specs.Implication.{IsSettled}
 use Rattle.watch_map.specs.WatchInvariant.{is_true}
 use Rattle.watch_map.specs.Visits.{AreUnwatchedSettled, AreUnwatchedTrue, AreAllSettled, AreAllTrue}
 use Rattle.watch_map.proofs.LiteralLists.{by_test}

@@ -10,7 +10,7 @@ use Rattle.decisions.specs.Literals.{Lit, Pos, Neg, Values, variable_of, satisfy
 use Rattle.decisions.specs.declared.decision.Decision.{Decision}
 use Rattle.decisions.specs.Trail.{Entry, val, IsOnce}
 use Rattle.decisions.proofs.TrailLemmas.{val-push}
-use Rattle.watch_map.specs.Forcing.{decided_literal}
+use Rattle.watch_map.specs.Implication.{decided_literal}
 use Rattle.watch_map.specs.WatchInvariant.{Extends, refuted_literal, is_true_literal, val_before}
 use Rattle.watch_map.proofs.LiteralLists.{by_test}
 

@@ -7,14 +7,14 @@ use Rattle.std.proofs.lemmas.Option.{slice_get_read}
 use Rattle.decisions.specs.Literals.{Lit, Values, truth, is_false_literal}
 use Rattle.clauses.specs.Clauses.{same_literal}
 use Rattle.watch_map.specs.Watching.{is_literal_in, AreTwoOrNone}
-use Rattle.watch_map.specs.Forcing.{is_false, forces, IsSettled}
+use Rattle.watch_map.specs.Implication.{is_false, is_unit, IsSettled}
 use Rattle.watch_map.specs.WatchInvariant.{is_true_literal, has_true_beside}
-use Rattle.watch_map.specs.Visits.{is_left, IsWatching, MayWatch, ForcesOther}
+use Rattle.watch_map.specs.Visits.{may_watch, IsWatching, MayWatch, ImpliesOther}
 use Rattle.watch_map.proofs.WatchingLaws.{same_is, same_self, same_swap}
 use Rattle.watch_map.proofs.LiteralLists.{by_test, all_at, all_from, found_is, none_found, in_two, apart}
 use Rattle.watch_map.proofs.ValueLaws.{open_if, true_is_decided}
-use Rattle.watch_map.proofs.ForcingLaws.{forces_parts, forces_from}
-use Rattle.watch_map.proofs.MetLaws.{beside_from}
+use Rattle.watch_map.proofs.ImplicationLaws.{forces_parts, forces_from}
+use Rattle.watch_map.proofs.SatisfiedLaws.{beside_from}
 
 -- what neither of two tests refuses
 not_and : (a b : Bool) → (not a && not b) ≡ false → a ≡ false → b ≡ true
@@ -82,7 +82,7 @@ of_two x y l other m hl ho hm ne mo =
 
 -- where a clause of two literals watches these, none is left
 pub none_left : (now : Values) (ls : List Lit) (l other : Lit) → length ls ≡ 2 → IsWatching ls (l ∷ other ∷ [])
-    → find (is_left now l other) ls ≡ None
+    → find (may_watch now l other) ls ≡ None
 none_left now [] l other two watching = absurd (omega (arith, two))
 none_left now (x ∷ []) l other two watching = absurd (omega (arith, two))
 none_left now (x ∷ y ∷ z ∷ ls) l other two watching = absurd (omega (arith, two))
@@ -92,8 +92,8 @@ none_left now (x ∷ y ∷ []) l other two watching =
     (or_right (same_literal other l) (same_literal other other || false)
     (or_left (same_literal other other) false (same_self other))) in
     let differs : same_literal other l ≡ false = same_swap other l ∙ watching.two in
-    let fails : (m : Lit) → is_literal_in m (x ∷ y ∷ []) ≡ true → is_left now l other m ≡ false =
-    λ m there. by_test (is_left now l other m ≡ false) (same_literal m other)
+    let fails : (m : Lit) → is_literal_in m (x ∷ y ∷ []) ≡ true → may_watch now l other m ≡ false =
+    λ m there. by_test (may_watch now l other m ≡ false) (same_literal m other)
     (λ s. rw s refl)
     (λ s. rw (s, subst (λ a. same_literal a l ≡ true) (sym (of_two x y l other m hl ho there differs s)) (same_self l)) refl) in
     let first = fails x (or_left (same_literal x x) (same_literal x y || false) (same_self x)) in
@@ -115,9 +115,9 @@ module _ (now : Values) (ls ws : List Lit) (l other : Lit) (pair : Pair ws l oth
     ];
   }
 
-  pub look_moves : (m : Lit) → find (is_left now l other) ls ≡ Some m → MayWatch now ls ws m
+  pub look_moves : (m : Lit) → find (may_watch now l other) ls ≡ Some m → MayWatch now ls ws m
   look_moves m h =
-      let found = found_is (is_left now l other) ls m h in
+      let found = found_is (may_watch now l other) ls m h in
       let both = and_parts (not (same_literal m other) && not (same_literal m l)) (not (is_false_literal now m)) found.1 in
       let unlike = and_parts (not (same_literal m other)) (not (same_literal m l)) both.0 in
       record {
@@ -127,17 +127,17 @@ module _ (now : Values) (ls ws : List Lit) (l other : Lit) (pair : Pair ws l oth
       }
 
   -- where none is left, all but the other watch is false
-  look_others : find (is_left now l other) ls ≡ None → (m : Lit) → is_literal_in m ls ≡ true
+  look_others : find (may_watch now l other) ls ≡ None → (m : Lit) → is_literal_in m ls ≡ true
       → same_literal m other ≡ false → is_false_literal now m ≡ true
   look_others h m there s = by_test (is_false_literal now m ≡ true) (same_literal m l)
       (λ e. subst (λ x. is_false_literal now x ≡ true) (sym (same_is m l e)) l_false)
       (λ e. not_and (same_literal m l) (is_false_literal now m)
-      (rw s at (none_found (is_left now l other) ls h m there)) e)
+      (rw s at (none_found (may_watch now l other) ls h m there)) e)
 
-  pub look_forces : find (is_left now l other) ls ≡ None → is_true_literal now other ≡ false
-      → is_false_literal now other ≡ false → ForcesOther now ls ws l other
+  pub look_forces : find (may_watch now l other) ls ≡ None → is_true_literal now other ≡ false
+      → is_false_literal now other ≡ false → ImpliesOther now ls ws l other
   look_forces h t f = record {
-    forced = forces_from now ls other (record {
+    implied = forces_from now ls other (record {
       own = watching.own other pair.there;
       is_open = open_if (truth now other) t f;
       others = look_others h;
@@ -146,7 +146,7 @@ module _ (now : Values) (ls ws : List Lit) (l other : Lit) (pair : Pair ws l oth
     other = pair.differs;
   }
 
-  pub look_conflicts : find (is_left now l other) ls ≡ None → is_false_literal now other ≡ true
+  pub look_conflicts : find (may_watch now l other) ls ≡ None → is_false_literal now other ≡ true
       → is_false now ls ≡ true
   look_conflicts h f = all_from (is_false_literal now) ls
       (λ m there. by_test (is_false_literal now m ≡ true) (same_literal m other)
@@ -176,7 +176,7 @@ module _ (now : Values) (ls : List Lit) where
         (λ all. true≢false (sym (all_at (is_false_literal now) ls first all first_in) ∙ first_open))
 
     -- a forced literal is the first
-    forced_is_first : (l : Lit) → forces now ls l ≡ true → first ≡ l
+    forced_is_first : (l : Lit) → is_unit now ls l ≡ true → first ≡ l
     forced_is_first l f =
         by_test (first ≡ l) (same_literal first l) (same_is first l)
         (λ s. absurd (true≢false (sym ((forces_parts now ls l f).others first first_in s) ∙ first_open)))
@@ -184,7 +184,7 @@ module _ (now : Values) (ls : List Lit) where
     pub find_true : is_true_literal now first ≡ true → IsSettled now ls
     find_true t = (
       first_not_false,
-      λ l. false_from_ne_true (forces now ls l)
+      λ l. false_from_ne_true (is_unit now ls l)
           (λ f. true_is_decided now l (subst (λ x. is_true_literal now x ≡ true) (forced_is_first l f) t)
           (forces_parts now ls l f).is_open),
     )
@@ -194,7 +194,7 @@ module _ (now : Values) (ls : List Lit) where
         → IsSettled now ls
     find_second second h = (
       first_not_false,
-      λ l. false_from_ne_true (forces now ls l)
+      λ l. false_from_ne_true (is_unit now ls l)
           (λ f.
           let it = found_is (λ m. not (same_literal m first) && not (is_false_literal now m)) ls second h in
           let both = and_parts (not (same_literal second first)) (not (is_false_literal now second)) it.1 in
@@ -206,7 +206,7 @@ module _ (now : Values) (ls : List Lit) where
     )
 
     pub find_only : find (λ m. not (same_literal m first) && not (is_false_literal now m)) ls ≡ None
-        → is_true_literal now first ≡ false → forces now ls first ≡ true
+        → is_true_literal now first ≡ false → is_unit now ls first ≡ true
     find_only h t = forces_from now ls first (record {
       own = first_in;
       is_open = open_if (truth now first) t first_open;

@@ -11,8 +11,8 @@ use Rattle.watch_map.specs.Watching.{is_literal_in, is_clause_in, behind}
 use Rattle.watch_map.specs.WatchLists.{WatchLists, Watches, Position, watched_by, watchers, AreWatched, clause_of, index_of, literal_of}
 use Rattle.watch_map.specs.WatchLists.{IsNode, IsPrevious, IsCursorAt, IsChain, link, next_at, record_of}
 use Rattle.watch_map.specs.WatchCalls.{StandsIn, IsReached, Moves, passed, rest}
-use Rattle.watch_map.specs.Saturation.{HasForced, IsRearranged}
-use Rattle.watch_map.specs.WatchInvariant.{has_true_beside, KeepsMet, AreMetBut}
+use Rattle.watch_map.specs.Saturation.{HasImplied, IsRearranged}
+use Rattle.watch_map.specs.WatchInvariant.{has_true_beside, KeepWatchesSatisfied, AreWatchesSatisfiedBut}
 use Rattle.watch_map.specs.Visits.{IsWatching, MayWatch}
 use Rattle.watch_map.proofs.CursorLaws.{reached_cursor}
 use Rattle.watch_map.proofs.MoveLaws.{reached_past}
@@ -20,8 +20,8 @@ use Rattle.watch_map.proofs.WatchingLaws.{parts}
 use Rattle.watch_map.proofs.ChainLaws.{in_middle}
 use Rattle.watch_map.proofs.LiteralLists.{read_in}
 use Rattle.watch_map.proofs.ValueLaws.{extends_on, false_kept}
-use Rattle.watch_map.proofs.ForcingLaws.{forced_then, forced_extends}
-use Rattle.watch_map.proofs.MetLaws.{met_but_kept, met_but_next, moved_own, moved_as_many, moved_met, moved_met_but}
+use Rattle.watch_map.proofs.ImplicationLaws.{forced_then, forced_extends}
+use Rattle.watch_map.proofs.SatisfiedLaws.{met_but_kept, met_but_next, moved_own, moved_as_many, moved_met, moved_met_but}
 
 -- a cursor stands in the list of the literal, where there is one
 pub record IsAt (l : Lit) (map : WatchLists) (watches : Watches) (at : Position) : Type 0 where
@@ -166,21 +166,21 @@ pub record IsWalked (literals : ℕ → List Lit) (level : ℕ) (l : Lit) (t : T
     (watches : Watches) (t' : Trail) (ahead : List ℕ) : Type 0 where
   pub watched : AreWatched map watches
   pub rearranged : IsRearranged literals w (watched_by watches)
-  pub forced : HasForced literals level t t'
-  pub kept : KeepsMet (val t.entries) w (watched_by watches)
-  pub ahead_met : AreMetBut ahead l (val t'.entries) (watched_by watches)
+  pub implied : HasImplied literals level t t'
+  pub kept : KeepWatchesSatisfied (val t.entries) w (watched_by watches)
+  pub ahead_met : AreWatchesSatisfiedBut ahead l (val t'.entries) (watched_by watches)
 
 module _ (literals : ℕ → List Lit) (level : ℕ) (l : Lit) (t : Trail) (w : ℕ → List Lit) where
   -- entries more
   pub walked_more : (map : WatchLists) (watches : Watches) (t' t'' : Trail) (ahead : List ℕ)
-      → HasForced literals level t' t'' → IsWalked literals level l t w map watches t' ahead
+      → HasImplied literals level t' t'' → IsWalked literals level l t w map watches t' ahead
       → IsWalked literals level l t w map watches t'' ahead
   walked_more map watches t' t'' ahead f walked =
       let ex = forced_extends literals level t' t'' f in
       record {
         watched = walked.watched;
         rearranged = walked.rearranged;
-        forced = forced_then literals level t t' t'' walked.forced f;
+        implied = forced_then literals level t t' t'' walked.implied f;
         kept = walked.kept;
         ahead_met = met_but_kept ahead l (val t'.entries) (val t''.entries) (watched_by watches) ex walked.ahead_met;
       }
@@ -192,7 +192,7 @@ module _ (literals : ℕ → List Lit) (level : ℕ) (l : Lit) (t : Trail) (w : 
   walked_next map watches t' c rest here walked = record {
     watched = walked.watched;
     rearranged = walked.rearranged;
-    forced = walked.forced;
+    implied = walked.implied;
     kept = walked.kept;
     ahead_met = met_but_next c rest l (val t'.entries) (watched_by watches) here walked.ahead_met;
   }
@@ -223,12 +223,12 @@ module _ (literals : ℕ → List Lit) (level : ℕ) (l : Lit) (t : Trail) (w : 
           as_many = λ d. moved_as_many before after c index l to two within read may.unwatched moves.literals d
               ∙ walked.rearranged.as_many d;
         };
-        forced = walked.forced;
-        kept = λ past seen ex ex_seen met.
-            let grown = forced_extends literals level t t' walked.forced in
+        implied = walked.implied;
+        kept = λ past seen ex ex_seen satisfied.
+            let grown = forced_extends literals level t t' walked.implied in
             moved_met before after c index l to two within read may.unwatched moves.literals now l_false may.not_false
             past seen (extends_on past (val t.entries) now ex grown) (extends_on seen (val t.entries) now ex_seen grown)
-            here (walked.kept past seen ex ex_seen met);
+            here (walked.kept past seen ex ex_seen satisfied);
         ahead_met = moved_met_but before after c index l to two within read may.unwatched moves.literals now l_false
             may.not_false (rest cursor map watches) walked.ahead_met;
       }
@@ -238,7 +238,7 @@ module _ (literals : ℕ → List Lit) (level : ℕ) (l : Lit) (t : Trail) (w : 
       → is_false_literal (val t.entries) l ≡ true → IsWalked literals level l t w map watches t' ahead
       → is_false_literal (val t'.entries) l ≡ true
   walked_false map watches t' ahead f walked =
-      false_kept (val t.entries) (val t'.entries) (forced_extends literals level t t' walked.forced) l f
+      false_kept (val t.entries) (val t'.entries) (forced_extends literals level t t' walked.implied) l f
 
   -- the clause at a cursor, to be visited
   pub walked_watching : (map : WatchLists) (watches : Watches) (t' : Trail) (ahead : List ℕ) (c : ℕ)

@@ -4,7 +4,7 @@ use Rattle.std.specs.Prelude.{find, unwrap_or, is_some}
 use Rattle.std.specs.List.{list_all}
 use Rattle.std.specs.Option.{option_or}
 use Rattle.decisions.specs.Literals.{Lit, Values, known_false, is_false_literal}
-use Rattle.clauses.specs.Clauses.{first_not_false, is_met_by_parent}
+use Rattle.clauses.specs.Clauses.{first_not_false, conflicts_with_parent}
 
 -- all pass where none is found that doesn't
 all-unfound : {X : Type 0} (p : X → Bool) (xs : List X) → list_all p xs ≡ not (is_some (find (λ x. not (p x)) xs))
@@ -26,6 +26,6 @@ first_or val (l ∷ ls) = some_or (find (λ x. not (is_false_literal val x)) (l 
 -- a conflict where there is a literal, none isn't false, and the parent isn't
 pub met_by_parent : (val : Values) (parent : ℕ) (ls : List Lit)
     → (not (is_some (find (λ l. not (is_false_literal val l)) ls)) && (is_some (find (λ l. true) ls) && not (known_false (val parent))))
-    ≡ is_met_by_parent val parent ls
+    ≡ conflicts_with_parent val parent ls
 met_by_parent val parent [] = refl
 met_by_parent val parent (l ∷ ls) = ap (λ b. b && not (known_false (val parent))) (sym (all-unfound (is_false_literal val) (l ∷ ls)))

@@ -23,8 +23,8 @@ pub record Clauses (N : Type 0) : Type 0 where
   -- for each literal the clauses that watch it, front first
   pub watchers : Lit → List ℕ
 
--- what a list of clauses keeps
-pub record Kept (N : Type 0) : Type 0 where
+-- the state of a list of clauses
+pub record ClauseListState (N : Type 0) : Type 0 where
   pub clauses : List (Clause N)
   -- a record for each clause that watches something
   pub records : Watches
@@ -55,13 +55,13 @@ abbrev pub bit_watches : ℕ × ℕ × Bool → Option (List Lit)
 bit_watches bit = watch_pair (Neg bit.0) (helper_literal bit)
 
 module _ {N : Type 0} where
-  -- the clauses that are kept
-  abbrev pub contents : Kept N → Clauses N
-  contents kept = record {
-    clauses = kept.clauses;
-    watches = map literals_in kept.records;
-    learnt = kept.learnt;
-    watchers = watchers kept.lists kept.records;
+  -- the clauses of a state
+  abbrev pub contents : ClauseListState N → Clauses N
+  contents state = record {
+    clauses = state.clauses;
+    watches = map literals_in state.records;
+    learnt = state.learnt;
+    watchers = watchers state.lists state.records;
   }
 
   -- no clauses
@@ -126,20 +126,20 @@ module _ {N : Type 0} where
   with_forbidden name cs bits = fold (with_forbidden_one name) cs bits
 
   -- there are ids and room for this number of clauses more that watch what these do
-  pub record HasRoomFor (count : ℕ) (bits : List (ℕ × ℕ × Bool)) (kept : Kept N) : Type 0 where
-    pub ids : are_ids_out_for count (contents kept) ≡ false
-    pub clauses : length kept.clauses + count ≤ kept.clause_room
-    pub records : length kept.clauses + count ≤ kept.record_room
-    pub lists : All (λ bit. HaveRooms kept.lists count (two_or_none (bit_watches bit))) bits
+  pub record HasRoomFor (count : ℕ) (bits : List (ℕ × ℕ × Bool)) (state : ClauseListState N) : Type 0 where
+    pub ids : are_ids_out_for count (contents state) ≡ false
+    pub clauses : length state.clauses + count ≤ state.clause_room
+    pub records : length state.clauses + count ≤ state.record_room
+    pub lists : All (λ bit. HaveRooms state.lists count (two_or_none (bit_watches bit))) bits
 
   -- there is an id and room for one more clause that watches these
-  pub record HasRoom (kept : Kept N) (watched : List Lit) : Type 0 where
-    pub id : is_full (contents kept) ≡ false
-    pub clause : length kept.clauses < kept.clause_room
-    pub watch : length kept.clauses < kept.record_room
-    pub lists : HaveRoom kept.lists watched
+  pub record HasRoom (state : ClauseListState N) (watched : List Lit) : Type 0 where
+    pub id : is_full (contents state) ≡ false
+    pub clause : length state.clauses < state.clause_room
+    pub watch : length state.clauses < state.record_room
+    pub lists : HaveRoom state.lists watched
 
   -- no room is lost
-  pub record KeepsRoom (old new : Kept N) : Type 0 where
+  pub record KeepsRoom (old new : ClauseListState N) : Type 0 where
     pub one : (watched : List Lit) → HasRoom old watched → HasRoom new watched
     pub many : (count : ℕ) (bits : List (ℕ × ℕ × Bool)) → HasRoomFor count bits old → HasRoomFor count bits new

@@ -1,26 +1,26 @@
--- A condition as a requires clause is given it: the id of a disjunction, and the literals that are kept under this id.
+-- The condition of a requires clause: the id of a disjunction, and the literals that are stored under this id.
 use Rattle.std.specs.Prelude.{◌≡◌, ℕ, List, [], Option, Some, None}
 use Rattle.std.specs.Borrow.{Bor}
 use Rattle.decisions.specs.Literals.{Lit}
 use Rattle.providers.specs.declared.requirement.Requirement.{Requirement}
-use Rattle.clauses.specs.Clauses.{Kept, condition_literals, asked_literals}
+use Rattle.clauses.specs.Clauses.{StoredLiterals, condition_literals, required_literals}
 
 -- the id of the disjunction, if there is a condition
-abbrev pub given_disjunction : Option (ℕ × Bor (List Lit)) → Option ℕ
-given_disjunction None = None
-given_disjunction (Some condition) = Some condition.0
+abbrev pub disjunction_id : Option (ℕ × Bor (List Lit)) → Option ℕ
+disjunction_id None = None
+disjunction_id (Some condition) = Some condition.0
 
 -- the literals of the disjunction; none without a condition
-abbrev pub given_literals : Option (ℕ × Bor (List Lit)) → List Lit
-given_literals None = []
-given_literals (Some condition) = condition.1.now
+abbrev pub disjunction_literals : Option (ℕ × Bor (List Lit)) → List Lit
+disjunction_literals None = []
+disjunction_literals (Some condition) = condition.1.now
 
 -- the literals of a requires clause but its parent's: those of its condition, and then its candidates
-abbrev pub given_others : Option (ℕ × Bor (List Lit)) → List (List ℕ) → List Lit
-given_others condition lists = asked_literals (given_literals condition) lists
+abbrev pub literals_but_parent : Option (ℕ × Bor (List Lit)) → List (List ℕ) → List Lit
+literals_but_parent condition lists = required_literals (disjunction_literals condition) lists
 
--- the literals of the condition and the lists of the requirement are what is kept for the clause
-pub record AreKept (k : Kept) (condition : Option (ℕ × Bor (List Lit))) (requirement : Requirement)
+-- the literals of the condition and the lists of the requirement are those that are stored for the clause
+pub record MatchStored (k : StoredLiterals) (condition : Option (ℕ × Bor (List Lit))) (requirement : Requirement)
     (lists : List (List ℕ)) : Type 0 where
-  pub literals : condition_literals k (given_disjunction condition) ≡ given_literals condition
+  pub literals : condition_literals k (disjunction_id condition) ≡ disjunction_literals condition
   pub candidates : k.lists requirement ≡ lists

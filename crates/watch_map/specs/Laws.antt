@@ -1,4 +1,4 @@
--- Laws for callers: what follows from the words of the contracts, whatever the lists are kept as.
+-- Laws for callers: what follows from the definitions in the contracts, however the lists are stored.
 use Rattle.std.specs.Prelude.{◌≡◌, ◌≢◌, ℕ, ◌≤◌, true, [], ◌∷◌, ◌++◌, length, Some, None}
 use Rattle.typed_ids.specs.TotalMaps.{IsUpdate}
 use Rattle.decisions.specs.Literals.{Lit}
@@ -46,9 +46,9 @@ abbrev pub CursorsDivide : Type 0
 CursorsDivide = (cursor : Position) (map : WatchLists) (watches : Watches) → StandsIn cursor map watches
     → watchers map watches (literal_of cursor) ≡ passed cursor map watches ++ clause_of cursor ∷ rest cursor map watches
 
--- a walk doesn't meet its clause again
-abbrev pub ClausesAreMetOnce : Type 0
-ClausesAreMetOnce = (cursor : Position) (map : WatchLists) (watches : Watches) → StandsIn cursor map watches
+-- a walk doesn't visit its clause again
+abbrev pub ClausesAreVisitedOnce : Type 0
+ClausesAreVisitedOnce = (cursor : Position) (map : WatchLists) (watches : Watches) → StandsIn cursor map watches
     → (clause : ℕ) → is_clause_in clause (rest cursor map watches) ≡ true → clause ≢ clause_of cursor
 
 -- a cursor outlives what leaves the lists as they were, as making room does

@@ -2,7 +2,7 @@ pub mod ClauseList
 pub mod ClauseListView
 pub mod ClauseRecord
 pub mod Conditions
-pub mod Forcing
+pub mod Implication
 pub mod Laws
 pub mod Marks
 pub mod NextCode

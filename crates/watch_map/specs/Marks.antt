@@ -4,7 +4,7 @@ use Rattle.std.specs.Prelude.{◌∷◌, ◌++◌, length, take, slice_index_or,
 use Rattle.std.specs.List.{AllPairs}
 use Rattle.decisions.specs.Literals.{Lit, variable_of, is_false_literal}
 use Rattle.decisions.specs.Trail.{Entry, val, level_of}
-use Rattle.watch_map.specs.WatchInvariant.{AreMet, val_before}
+use Rattle.watch_map.specs.WatchInvariant.{AreWatchesSatisfied, val_before}
 use Rattle.watch_map.specs.Visits.{AreUnwatchedTrue}
 use Rattle.watch_map.specs.declared.marks.Mark.{Mark}
 use Rattle.watch_map.specs.declared.marks.Limit.{Limit}
@@ -12,11 +12,11 @@ use Rattle.watch_map.specs.declared.marks.Limit.TheVariants.{Place, Level}
 
 -- ---- what a mark says
 
--- a mark of a trail: its entries are those before its place. What they make false they meet; each clause below its
--- bound that watches nothing they make true; and no level of them is above its level
+-- a mark of a trail: its entries are those before its place. The watches that they make false they satisfy;
+-- each clause below its bound that watches nothing they make true; and no level of them is above its level
 pub record IsMark (literals watched : ℕ → List Lit) (entries : List Entry) (mark : Mark) : Type 0 where
   pub within : mark.place ≤ length entries
-  pub met : AreMet (val_before mark.place entries) (val_before mark.place entries) watched
+  pub satisfied : AreWatchesSatisfied (val_before mark.place entries) (val_before mark.place entries) watched
   pub unwatched : AreUnwatchedTrue literals watched mark.clauses (val_before mark.place entries)
   pub levels : (x : ℕ) → level_of (take mark.place entries) x ≤ mark.level
 

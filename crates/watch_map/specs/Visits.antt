@@ -1,23 +1,23 @@
--- What a look at a clause tells, and what a visit leaves.
+-- What the inspection of a clause finds, and how a visit ends.
 use Rattle.std.specs.Prelude.{◌≡◌, ℕ, ◌<◌, Bool, true, false, not, ◌&&◌, List, [], All}
 use Rattle.decisions.specs.Literals.{Lit, Values, is_false_literal}
 use Rattle.clauses.specs.Clauses.{same_literal}
-use Rattle.clauses.specs.Stored.{kept_in}
+use Rattle.clauses.specs.Stored.{stored_in}
 use Rattle.watch_map.specs.Watching.{is_literal_in, AreTwoOrNone}
-use Rattle.watch_map.specs.Forcing.{is_false, forces, IsSettled}
+use Rattle.watch_map.specs.Implication.{is_false, is_unit, IsSettled}
 use Rattle.watch_map.specs.Saturation.{literals_from, AreOwn}
 use Rattle.watch_map.specs.WatchInvariant.{has_true_beside, is_true}
-use Rattle.watch_map.specs.declared.saturation.given.Given.{Given}
+use Rattle.watch_map.specs.declared.saturation.input.SaturationInput.{SaturationInput}
 use Rattle.watch_map.specs.declared.saturation.unwatched.Finding.{Finding}
 use Rattle.watch_map.specs.declared.saturation.unwatched.Finding.TheVariants as Found
-use Rattle.watch_map.specs.declared.saturation.visit.Sight.{Sight}
-use Rattle.watch_map.specs.declared.saturation.visit.Sight.TheVariants as Seen
-use Rattle.watch_map.specs.declared.saturation.visit.Upshot.{Upshot}
-use Rattle.watch_map.specs.declared.saturation.visit.Upshot.TheVariants as Left
+use Rattle.watch_map.specs.declared.saturation.visit.Inspection.{Inspection}
+use Rattle.watch_map.specs.declared.saturation.visit.Inspection.TheVariants as Seen
+use Rattle.watch_map.specs.declared.saturation.visit.VisitOutcome.{VisitOutcome}
+use Rattle.watch_map.specs.declared.saturation.visit.VisitOutcome.TheVariants as Ends
 
--- the literals of a clause, by what a saturation is given
-abbrev pub literals_at : {N A : Type 0} → Given N A → ℕ → List Lit
-literals_at g = literals_from (kept_in g.learnt.now g.lists.now g.disjunctions.now) g.clauses.now
+-- the literals of a clause, by the input of a saturation
+abbrev pub literals_at : {N A : Type 0} → SaturationInput N A → ℕ → List Lit
+literals_at g = literals_from (stored_in g.learnt.now g.lists.now g.disjunctions.now) g.clauses.now
 
 -- ---- a clause that watches two literals
 
@@ -27,8 +27,8 @@ pub record IsWatching (literals watched : List Lit) : Type 0 where
   pub own : AreOwn literals watched
 
 -- whether a clause that watches two literals may watch this one too: it is neither of them, and not false
-abbrev pub is_left : Values → Lit → Lit → Lit → Bool
-is_left now a b l = not (same_literal l b) && not (same_literal l a) && not (is_false_literal now l)
+abbrev pub may_watch : Values → Lit → Lit → Lit → Bool
+may_watch now a b l = not (same_literal l b) && not (same_literal l a) && not (is_false_literal now l)
 
 -- the clause may watch this literal: it is one of its own, unwatched, and not false
 pub record MayWatch (now : Values) (literals watched : List Lit) (l : Lit) : Type 0 where
@@ -36,30 +36,30 @@ pub record MayWatch (now : Values) (literals watched : List Lit) (l : Lit) : Typ
   pub unwatched : is_literal_in l watched ≡ false
   pub not_false : is_false_literal now l ≡ false
 
--- the clause forces this literal, which it watches beside the false one
-pub record ForcesOther (now : Values) (literals watched : List Lit) (falsified l : Lit) : Type 0 where
-  pub forced : forces now literals l ≡ true
+-- the clause is unit: only this literal is left, which it watches beside the false one
+pub record ImpliesOther (now : Values) (literals watched : List Lit) (falsified l : Lit) : Type 0 where
+  pub implied : is_unit now literals l ≡ true
   pub watch : is_literal_in l watched ≡ true
   pub other : same_literal l falsified ≡ false
 
 -- over the values, the clause's literals, those that it watches, and the watch that is false
-abbrev pub IsLook : Values → List Lit → List Lit → Lit → Sight → Type 0
-IsLook now literals watched falsified Seen.Met = has_true_beside now watched falsified ≡ true
-IsLook now literals watched falsified (Seen.Moves l) = MayWatch now literals watched l
-IsLook now literals watched falsified (Seen.Forces l) = ForcesOther now literals watched falsified l
-IsLook now literals watched falsified Seen.Conflict = is_false now literals ≡ true
+abbrev pub IsInspection : Values → List Lit → List Lit → Lit → Inspection → Type 0
+IsInspection now literals watched falsified Seen.Satisfied = has_true_beside now watched falsified ≡ true
+IsInspection now literals watched falsified (Seen.Moves l) = MayWatch now literals watched l
+IsInspection now literals watched falsified (Seen.Unit l) = ImpliesOther now literals watched falsified l
+IsInspection now literals watched falsified Seen.Conflict = is_false now literals ≡ true
 
-abbrev pub IsVisit : Values → List Lit → List Lit → Lit → Upshot → Type 0
-IsVisit now literals watched falsified Left.Met = has_true_beside now watched falsified ≡ true
-IsVisit now literals watched falsified (Left.Moves l) = MayWatch now literals watched l
-IsVisit now literals watched falsified Left.Conflict = is_false now literals ≡ true
+abbrev pub IsVisit : Values → List Lit → List Lit → Lit → VisitOutcome → Type 0
+IsVisit now literals watched falsified Ends.Satisfied = has_true_beside now watched falsified ≡ true
+IsVisit now literals watched falsified (Ends.Moves l) = MayWatch now literals watched l
+IsVisit now literals watched falsified Ends.Conflict = is_false now literals ≡ true
 
 -- ---- a clause that watches nothing
 
 -- over the values and the clause's literals
 abbrev pub IsFinding : Values → List Lit → Finding → Type 0
 IsFinding now literals Found.Settled = IsSettled now literals
-IsFinding now literals (Found.Forces l) = forces now literals l ≡ true
+IsFinding now literals (Found.Unit l) = is_unit now literals l ≡ true
 IsFinding now literals Found.Conflict = is_false now literals ≡ true
 
 -- these clauses are settled

@@ -1,4 +1,4 @@
--- What the calls on watch lists promise: the words of their contracts, whatever the lists are kept as.
+-- What the calls on watch lists promise: the definitions in their contracts, however the lists are stored.
 use Rattle.std.specs.Prelude.{◌≡◌, ℕ, ◌+◌, ◌<◌, true, if◌then◌else◌, List, [], ◌∷◌, ◌++◌}
 use Rattle.std.specs.Prelude.{length, Option, Some, None, slice_index_or, slice_set}
 use Rattle.typed_ids.specs.TotalMaps.{IsUpdate}

@@ -31,21 +31,22 @@ is_true now literals = list_any (is_true_literal now) literals
 
 -- ---- watches
 
--- whether, of the literals that a clause watches, another than this one is true: then the watch of this one is met
+-- whether, of the literals that a clause watches, another than this one is true: then this watch is satisfied
 abbrev pub has_true_beside : Values → List Lit → Lit → Bool
 has_true_beside now watched l = list_any (λ m. not (same_literal m l) && is_true_literal now m) watched
 
--- each watch that was false before is met now
-abbrev pub AreMet : Values → Values → (ℕ → List Lit) → Type 0
-AreMet before now watched = (c : ℕ) (l : Lit) → is_literal_in l (watched c) ≡ true → is_false_literal before l ≡ true
+-- each watch that was false before is satisfied now
+abbrev pub AreWatchesSatisfied : Values → Values → (ℕ → List Lit) → Type 0
+AreWatchesSatisfied before now watched =
+    (c : ℕ) (l : Lit) → is_literal_in l (watched c) ≡ true → is_false_literal before l ≡ true
     → has_true_beside now (watched c) l ≡ true
 
--- what was false by earlier values than these, and met by such, is met where clauses watch other literals
-abbrev pub KeepsMet : Values → (ℕ → List Lit) → (ℕ → List Lit) → Type 0
-KeepsMet now watched watched' = (before seen : Values) → Extends before now → Extends seen now
-    → AreMet before seen watched → AreMet before seen watched'
+-- what was false by earlier values than these, and satisfied by such, is satisfied where clauses watch other literals
+abbrev pub KeepWatchesSatisfied : Values → (ℕ → List Lit) → (ℕ → List Lit) → Type 0
+KeepWatchesSatisfied now watched watched' = (before seen : Values) → Extends before now → Extends seen now
+    → AreWatchesSatisfied before seen watched → AreWatchesSatisfied before seen watched'
 
--- each watch of this literal is met, but for the clauses that its walk is yet to visit
-abbrev pub AreMetBut : List ℕ → Lit → Values → (ℕ → List Lit) → Type 0
-AreMetBut ahead l now watched = (c : ℕ) → is_literal_in l (watched c) ≡ true → is_clause_in c ahead ≡ false
+-- each watch of this literal is satisfied, but for the clauses that its walk is yet to visit
+abbrev pub AreWatchesSatisfiedBut : List ℕ → Lit → Values → (ℕ → List Lit) → Type 0
+AreWatchesSatisfiedBut ahead l now watched = (c : ℕ) → is_literal_in l (watched c) ≡ true → is_clause_in c ahead ≡ false
     → has_true_beside now (watched c) l ≡ true

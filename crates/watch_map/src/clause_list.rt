@@ -18,14 +18,14 @@ ghost use Rattle.watch_map.specs.ClauseList.{contents, with_clause, with_learnt}
 ghost use Rattle.watch_map.specs.ClauseList.{with_rewatched, can_rewatch, HasRoom, KeepsRoom};
 ghost use Rattle.watch_map.specs.ClauseList.{are_ids_out_for, with_forbidden, HasRoomFor, watched_by};
 ghost use Rattle.decisions.specs.Trail.{val};
-ghost use Rattle.clauses.specs.Stored.{kept_in};
-ghost use Rattle.watch_map.specs.Forcing.{AreSettled, IsConflict};
-ghost use Rattle.watch_map.specs.Saturation.{literals_in_list, WatchOwn, HasForced, IsRearranged};
+ghost use Rattle.clauses.specs.Stored.{stored_in};
+ghost use Rattle.watch_map.specs.Implication.{AreSettled, IsConflict};
+ghost use Rattle.watch_map.specs.Saturation.{literals_in_list, WatchOwn, HasImplied, IsRearranged};
 ghost use Rattle.watch_map.specs.Marks.{AreMarks, none_false_at, none_watched_false};
 
 use crate::lists::WatchMap;
 use crate::marks::Marks;
-use crate::saturation::{self, Given};
+use crate::saturation::{self, SaturationInput};
 use crate::stored_clause::StoredClause;
 use crate::unwatched::UnwatchedClauses;
 use crate::walks;
@@ -60,15 +60,15 @@ pub struct ClauseList<N: Copy, A: Allocator + Copy> {
 /// The clauses, what each of them watches, the clauses that watch each literal, and the literals of the learnt ones;
 /// and the room for more.
 impl<N: Copy, A: Allocator + Copy> Model for ClauseList<N, A> {
-    ghost use Rattle.watch_map.specs.ClauseList.{Kept, contents, IsClauseList};
-    ghost use Rattle.watch_map.specs.ClauseListView.{kept_in};
+    ghost use Rattle.watch_map.specs.ClauseList.{ClauseListState, contents, IsClauseList};
+    ghost use Rattle.watch_map.specs.ClauseListView.{clause_list_in};
     ghost use Rattle.watch_map.specs.WatchLists.{AreWatched, AreUnwatchedBelow};
 
-    ghost Value = { Kept N };
+    ghost Value = { ClauseListState N };
 
-    ghost view = { kept_in };
+    ghost view = { clause_list_in };
 
-    ghost invariant = { λ a. IsClauseList (contents (kept_in a)) × AreWatched a.map a.watches.items
+    ghost invariant = { λ a. IsClauseList (contents (clause_list_in a)) × AreWatched a.map a.watches.items
         × AreUnwatchedBelow a.watches.items a.unwatched.bound a.unwatched.ids.items };
 }
 
@@ -313,29 +313,30 @@ impl<N: Copy, A: Allocator + Copy> ClauseList<N, A> {
         marks: &mut Marks<A>,
         level: u32,
     ) -> Result<Option<ClauseId>, StoreError>
-        requires own { WatchOwn (literals_in_list (kept_in [] lists.now disjunctions.now) (contents self.old))
+        requires own { WatchOwn (literals_in_list (stored_in [] lists.now disjunctions.now) (contents self.old))
             (watched_by (contents self.old)) }
         requires level { (1 ≤ level) × (level < 2 ^ 31) }
-        requires marks { AreMarks (literals_in_list (kept_in [] lists.now disjunctions.now) (contents self.old))
+        requires marks { AreMarks (literals_in_list (stored_in [] lists.now disjunctions.now) (contents self.old))
             (watched_by (contents self.old)) trail.old.entries marks.old }
         ensures clauses { (contents self.new).clauses ≡ (contents self.old).clauses }
         ensures learnt { (contents self.new).learnt ≡ (contents self.old).learnt }
-        ensures rearranged { IsRearranged (literals_in_list (kept_in [] lists.now disjunctions.now) (contents self.old))
+        ensures rearranged { IsRearranged
+            (literals_in_list (stored_in [] lists.now disjunctions.now) (contents self.old))
             (watched_by (contents self.old)) (watched_by (contents self.new)) }
         ensures list { IsClauseList (contents self.new) }
-        ensures forced { HasForced (literals_in_list (kept_in [] lists.now disjunctions.now) (contents self.old)) level
-            trail.old trail.new }
+        ensures implied { HasImplied
+            (literals_in_list (stored_in [] lists.now disjunctions.now) (contents self.old)) level trail.old trail.new }
         ensures ok { IfOk result (λ conflict. MatchOption conflict
-            (AreSettled (literals_in_list (kept_in [] lists.now disjunctions.now) (contents self.old))
+            (AreSettled (literals_in_list (stored_in [] lists.now disjunctions.now) (contents self.old))
             (length (contents self.old).clauses) (val trail.new.entries))
-            (IsConflict (literals_in_list (kept_in [] lists.now disjunctions.now) (contents self.old))
+            (IsConflict (literals_in_list (stored_in [] lists.now disjunctions.now) (contents self.old))
             (length (contents self.old).clauses) (val trail.new.entries))) }
         ensures memory { IfErr result (λ e. e ≡ OutOfMemory) }
-        ensures marks { AreMarks (literals_in_list (kept_in [] lists.now disjunctions.now) (contents self.old))
+        ensures marks { AreMarks (literals_in_list (stored_in [] lists.now disjunctions.now) (contents self.old))
             (watched_by (contents self.new)) trail.new.entries marks.new }
     {
         self.unwatched.catch_up(self.watches.as_slice())?;
-        let given = Given {
+        let input = SaturationInput {
             clauses: self.clauses.as_slice(),
             unwatched: self.unwatched.ids.as_slice(),
             learnt: &self.learnt,
@@ -344,7 +345,7 @@ impl<N: Copy, A: Allocator + Copy> ClauseList<N, A> {
             level,
         };
         saturation::saturate(
-            &given,
+            &input,
             &mut self.map,
             self.watches.as_mut_slice(),
             trail,

@@ -48,7 +48,7 @@
 //! is its place in the list. What the calls make of the list is said in `specs/ClauseList`.
 //!
 //! [`ClauseList::saturate`] adds to the trail what clauses force, until none forces anything: `saturation` tells how.
-//! What clauses force is said in `specs/Forcing`, what a saturation changes in `specs/Saturation`, and what is true
+//! What clauses force is said in `specs/Implication`, what a saturation changes in `specs/Saturation`, and what is true
 //! while it goes on in `specs/WatchInvariant` and `specs/Visits`. [`Marks`] are places of the trail from which a later
 //! saturation goes on; what they say is in `specs/Marks`.
 #![tactic(auto)]

@@ -59,14 +59,14 @@ ghost use Rattle.std.specs.Prelude.{◌≡◌, length, MatchOption, IfOk, IfErr}
 ghost use Rattle.typed_ids.specs.declared.error.StoreError.TheVariants.{OutOfMemory};
 ghost use Rattle.decisions.specs.Trail.{val};
 ghost use Rattle.watch_map.specs.WatchLists.{watched_by, AreWatched};
-ghost use Rattle.watch_map.specs.Forcing.{AreSettled, IsConflict};
-ghost use Rattle.watch_map.specs.Saturation.{WatchOwn, HasForced, IsRearranged};
-ghost use Rattle.watch_map.specs.WatchInvariant.{AreMet, KeepsMet};
+ghost use Rattle.watch_map.specs.Implication.{AreSettled, IsConflict};
+ghost use Rattle.watch_map.specs.Saturation.{WatchOwn, HasImplied, IsRearranged};
+ghost use Rattle.watch_map.specs.WatchInvariant.{AreWatchesSatisfied, KeepWatchesSatisfied};
 ghost use Rattle.watch_map.specs.Visits.{literals_at};
 ghost use Rattle.watch_map.specs.Watching.{AreUnwatched};
 ghost use Rattle.watch_map.specs.Marks.{IsMark, AreMarks};
 
-mod given;
+mod input;
 mod marking;
 mod propagate;
 mod unwatched;
@@ -80,75 +80,75 @@ use crate::saturation::propagate::propagate;
 use crate::saturation::unwatched::{count_before, visit_all_unwatched};
 use crate::watched_literals::WatchedLiterals;
 use decisions::DecisionTracker;
-pub(crate) use given::Given;
+pub(crate) use input::SaturationInput;
 use std::alloc::Allocator;
 use typed_ids::{ClauseId, StoreError};
 pub(crate) use visit::is_false;
 
-/// Adds to the trail what clauses force, until none forces anything or one is false, which it answers. Goes on from the
+/// Adds to the trail what unit clauses imply, until none is unit or one is false, which it answers. Goes on from the
 /// newest mark, and remembers the end where all clauses are settled.
 pub(crate) fn saturate<N: Copy, A: Allocator + Copy>(
-    given: &Given<N, A>,
+    input: &SaturationInput<N, A>,
     map: &mut WatchMap<A>,
     watches: &mut [Option<WatchedLiterals>],
     trail: &mut DecisionTracker<A>,
     marks: &mut Marks<A>,
 ) -> Result<Option<ClauseId>, StoreError>
     requires watched { AreWatched map.old watches.old }
-    requires own { WatchOwn (literals_at given.now) (watched_by watches.old) }
-    requires unwatched { AreUnwatched (watched_by watches.old) (length given.now.clauses.now) given.now.unwatched.now }
-    requires marks { AreMarks (literals_at given.now) (watched_by watches.old) trail.old.entries marks.old }
+    requires own { WatchOwn (literals_at input.now) (watched_by watches.old) }
+    requires unwatched { AreUnwatched (watched_by watches.old) (length input.now.clauses.now) input.now.unwatched.now }
+    requires marks { AreMarks (literals_at input.now) (watched_by watches.old) trail.old.entries marks.old }
     ensures watched { AreWatched map.new watches.new }
-    ensures rearranged { IsRearranged (literals_at given.now) (watched_by watches.old) (watched_by watches.new) }
-    ensures forced { HasForced (literals_at given.now) given.now.level trail.old trail.new }
+    ensures rearranged { IsRearranged (literals_at input.now) (watched_by watches.old) (watched_by watches.new) }
+    ensures implied { HasImplied (literals_at input.now) input.now.level trail.old trail.new }
     ensures ok { IfOk result (λ conflict. MatchOption conflict
-        (AreSettled (literals_at given.now) (length given.now.clauses.now) (val trail.new.entries))
-        (IsConflict (literals_at given.now) (length given.now.clauses.now) (val trail.new.entries))) }
+        (AreSettled (literals_at input.now) (length input.now.clauses.now) (val trail.new.entries))
+        (IsConflict (literals_at input.now) (length input.now.clauses.now) (val trail.new.entries))) }
     ensures memory { IfErr result (λ e. e ≡ OutOfMemory) }
-    ensures marks { AreMarks (literals_at given.now) (watched_by watches.new) trail.new.entries marks.new }
+    ensures marks { AreMarks (literals_at input.now) (watched_by watches.new) trail.new.entries marks.new }
 {
     let from = marks.newest();
     let before = trail.assignments().len();
-    let conflict = saturate_from(given, map, watches, trail, &from)?;
+    let conflict = saturate_from(input, map, watches, trail, &from)?;
     if conflict.is_some() {
         return Ok(conflict);
     }
-    marks.push(mark_at_end(given, watches, trail, &from, before));
+    marks.push(mark_at_end(input, watches, trail, &from, before));
     Ok(None)
 }
 
-/// Adds to the trail what clauses force, until none forces anything or one is false, which it answers. Reads the trail
+/// Adds to the trail what unit clauses imply, until none is unit or one is false, which it answers. Reads the trail
 /// from the mark on.
 fn saturate_from<N: Copy, A: Allocator + Copy>(
-    given: &Given<N, A>,
+    input: &SaturationInput<N, A>,
     map: &mut WatchMap<A>,
     watches: &mut [Option<WatchedLiterals>],
     trail: &mut DecisionTracker<A>,
     from: &Mark,
 ) -> Result<Option<ClauseId>, StoreError>
     requires watched { AreWatched map.old watches.old }
-    requires own { WatchOwn (literals_at given.now) (watched_by watches.old) }
-    requires unwatched { AreUnwatched (watched_by watches.old) (length given.now.clauses.now) given.now.unwatched.now }
-    requires from { IsMark (literals_at given.now) (watched_by watches.old) trail.old.entries from.now }
+    requires own { WatchOwn (literals_at input.now) (watched_by watches.old) }
+    requires unwatched { AreUnwatched (watched_by watches.old) (length input.now.clauses.now) input.now.unwatched.now }
+    requires from { IsMark (literals_at input.now) (watched_by watches.old) trail.old.entries from.now }
     ensures watched { AreWatched map.new watches.new }
-    ensures rearranged { IsRearranged (literals_at given.now) (watched_by watches.old) (watched_by watches.new) }
-    ensures forced { HasForced (literals_at given.now) given.now.level trail.old trail.new }
-    ensures kept { KeepsMet (val trail.old.entries) (watched_by watches.old) (watched_by watches.new) }
+    ensures rearranged { IsRearranged (literals_at input.now) (watched_by watches.old) (watched_by watches.new) }
+    ensures implied { HasImplied (literals_at input.now) input.now.level trail.old trail.new }
+    ensures kept { KeepWatchesSatisfied (val trail.old.entries) (watched_by watches.old) (watched_by watches.new) }
     ensures ok { IfOk result (λ conflict. MatchOption conflict
-        (AreSettled (literals_at given.now) (length given.now.clauses.now) (val trail.new.entries)
-        × AreMet (val trail.new.entries) (val trail.new.entries) (watched_by watches.new))
-        (IsConflict (literals_at given.now) (length given.now.clauses.now) (val trail.new.entries))) }
+        (AreSettled (literals_at input.now) (length input.now.clauses.now) (val trail.new.entries)
+        × AreWatchesSatisfied (val trail.new.entries) (val trail.new.entries) (watched_by watches.new))
+        (IsConflict (literals_at input.now) (length input.now.clauses.now) (val trail.new.entries))) }
     ensures memory { IfErr result (λ e. e ≡ OutOfMemory) }
 {
-    let first = count_before(given, from.clauses);
+    let first = count_before(input, from.clauses);
     let mut place = from.place;
     'rounds: loop {
-        let conflict = propagate(given, map, watches, trail, place)?;
+        let conflict = propagate(input, map, watches, trail, place)?;
         if conflict.is_some() {
             return Ok(conflict);
         }
         place = trail.assignments().len();
-        let conflict = visit_all_unwatched(given, trail, first)?;
+        let conflict = visit_all_unwatched(input, trail, first)?;
         if conflict.is_some() {
             return Ok(conflict);
         }

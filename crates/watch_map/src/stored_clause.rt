@@ -1,7 +1,7 @@
 //! How a clause is kept.
 ghost use Rattle.std.specs.Prelude.{◌≡◌};
 ghost use Rattle.clauses.specs.declared.clause.Clause.TheVariants.{Requires};
-ghost use Rattle.watch_map.specs.ClauseRecord.{clause_kept};
+ghost use Rattle.watch_map.specs.ClauseRecord.{recorded_clause};
 
 use clauses::Clause;
 use decisions::Literal;
@@ -43,11 +43,11 @@ pub(crate) enum ClauseRecord<N> {
 impl<N> Model for StoredClause<N> {
     ghost use Rattle.std.proofs.Common.{ap};
     ghost use Rattle.clauses.specs.declared.clause.Clause.{Clause};
-    ghost use Rattle.watch_map.specs.ClauseRecord.{clause_kept, record_for, record_comes_back};
+    ghost use Rattle.watch_map.specs.ClauseRecord.{recorded_clause, record_for, record_comes_back};
 
     ghost Value = { Clause N };
 
-    ghost view = { λ a. clause_kept a.kept };
+    ghost view = { λ a. recorded_clause a.kept };
 
     ghost inverse = { λ clause. record { kept = record_for clause } };
 
@@ -129,7 +129,7 @@ fn requiring<N>(
     disjunction: Option<DisjunctionId>,
     requirement: Requirement,
 ) -> ClauseRecord<N>
-    ensures { clause_kept result ≡ Requires parent disjunction requirement }
+    ensures { recorded_clause result ≡ Requires parent disjunction requirement }
 {
     match (disjunction, requirement) {
         (None, Requirement::Single(set)) => ClauseRecord::RequiresSet(parent, set),

@@ -41,13 +41,13 @@ impl<A: Allocator + Copy> UnwatchedClauses<A> {
         ensures memory { IfErr result (λ e. e ≡ OutOfMemory) }
     {
         'records: while self.bound < watches.len() {
-            self.look_at_next(watches)?;
+            self.inspect_next(watches)?;
         }
         Ok(())
     }
 
     /// Looks at the next record.
-    fn look_at_next(&mut self, watches: &[Option<WatchedLiterals>]) -> Result<(), StoreError>
+    fn inspect_next(&mut self, watches: &[Option<WatchedLiterals>]) -> Result<(), StoreError>
         requires few { length watches.now ≤ 2 ^ 32 - 1 }
         requires next { self.old.bound < length watches.now }
         requires are { AreUnwatchedBelow watches.now self.old.bound self.old.ids.items }

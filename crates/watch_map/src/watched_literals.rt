@@ -3,12 +3,13 @@ ghost use Rattle.std.specs.Prelude.{◌≡◌, ◌<◌, ◌&&◌, not, [], ◌�
 ghost use Rattle.decisions.specs.Decisions.{values_in};
 ghost use Rattle.decisions.specs.Literals.{Pos, Neg, Values, known_true, known_false, is_false_literal};
 ghost use Rattle.decisions.specs.Trail.{val};
-ghost use Rattle.clauses.specs.Clauses.{Kept};
+ghost use Rattle.clauses.specs.Clauses.{StoredLiterals};
 ghost use Rattle.clauses.specs.Clauses.{same_literal, watch_pair, watch_beside, watch_ends};
-ghost use Rattle.clauses.specs.Clauses.{first_not_false, first_watches, is_met_by_parent, is_conflict, next_unwatched};
-ghost use Rattle.clauses.specs.Stored.{kept_in};
+ghost use Rattle.clauses.specs.Clauses.{first_not_false, first_watches};
+ghost use Rattle.clauses.specs.Clauses.{conflicts_with_parent, is_conflict, next_unwatched};
+ghost use Rattle.clauses.specs.Stored.{stored_in};
 ghost use Rattle.clauses.specs.Walks.{literals_in};
-ghost use Rattle.watch_map.specs.Conditions.{given_disjunction, given_literals, given_others, AreKept};
+ghost use Rattle.watch_map.specs.Conditions.{disjunction_id, disjunction_literals, literals_but_parent, MatchStored};
 ghost use Rattle.watch_map.specs.WatchLists.{IsUnlinked};
 ghost use Rattle.clauses.specs.declared.clause.Clause.TheVariants.{InstallRoot, Requires, ForbidMultipleInstances};
 ghost use Rattle.clauses.specs.declared.clause.Clause.TheVariants.{Constrains, ConstrainsExcluded};
@@ -63,17 +64,17 @@ impl WatchedLiterals {
         condition: &Option<(DisjunctionId, &[Literal])>,
         tracker: &DecisionTracker<A>,
     ) -> (Option<Self>, bool, Clause<N>)
-        ensures clause { result.2 ≡ Requires parent (given_disjunction condition.now) requirement }
+        ensures clause { result.2 ≡ Requires parent (disjunction_id condition.now) requirement }
         ensures watches { option_map (λ w. w.watched_literals) result.0 ≡ watch_beside (Neg parent)
-            (first_not_false (val tracker.now.entries) (given_others condition.now (candidates.now ∷ []))) }
-        ensures conflict { result.1 ≡ is_met_by_parent (val tracker.now.entries) parent
-            (given_others condition.now (candidates.now ∷ [])) }
+            (first_not_false (val tracker.now.entries) (literals_but_parent condition.now (candidates.now ∷ []))) }
+        ensures conflict { result.1 ≡ conflicts_with_parent (val tracker.now.entries) parent
+            (literals_but_parent condition.now (candidates.now ∷ [])) }
         ensures unlinked { IfSome result.0 IsUnlinked }
     {
         let others = LiteralWalk {
             first: None,
             second: None,
-            kept: literals_of(condition),
+            stored: literals_of(condition),
             candidates,
             lists: &[],
         };
@@ -94,21 +95,24 @@ impl WatchedLiterals {
         condition: &Option<(DisjunctionId, &[Literal])>,
         tracker: &DecisionTracker<A>,
     ) -> (Option<Self>, bool, Clause<N>)
-        ensures clause { result.2 ≡ Requires parent (given_disjunction condition.now) requirement }
+        ensures clause { result.2 ≡ Requires parent (disjunction_id condition.now) requirement }
         ensures watches { option_map (λ w. w.watched_literals) result.0 ≡ watch_beside (Neg parent)
-            (first_not_false (val tracker.now.entries) (given_others condition.now (map (λ l. l.items) lists.now))) }
-        ensures conflict { result.1 ≡ is_met_by_parent (val tracker.now.entries) parent
-            (given_others condition.now (map (λ l. l.items) lists.now)) }
-        ensures kept { (k : Kept) → AreKept k condition.now requirement (map (λ l. l.items) lists.now) →
+            (first_not_false (val tracker.now.entries)
+            (literals_but_parent condition.now (map (λ l. l.items) lists.now))) }
+        ensures conflict { result.1 ≡ conflicts_with_parent (val tracker.now.entries) parent
+            (literals_but_parent condition.now (map (λ l. l.items) lists.now)) }
+        ensures stored { (k : StoredLiterals) →
+            MatchStored k condition.now requirement (map (λ l. l.items) lists.now) →
             option_map (λ w. w.watched_literals) result.0 ≡ first_watches k (val tracker.now.entries) result.2 }
-        ensures kept_conflict { (k : Kept) → AreKept k condition.now requirement (map (λ l. l.items) lists.now) →
+        ensures stored_conflict { (k : StoredLiterals) →
+            MatchStored k condition.now requirement (map (λ l. l.items) lists.now) →
             result.1 ≡ is_conflict k (val tracker.now.entries) result.2 }
         ensures unlinked { IfSome result.0 IsUnlinked }
     {
         let others = LiteralWalk {
             first: None,
             second: None,
-            kept: literals_of(condition),
+            stored: literals_of(condition),
             candidates: &[],
             lists,
         };
@@ -130,9 +134,9 @@ impl WatchedLiterals {
     ) -> (Option<Self>, bool, Clause<N>)
         ensures clause { result.2 ≡ Constrains parent forbidden set }
         ensures pair { option_map (λ w. w.watched_literals) result.0 ≡ watch_pair (Neg parent) (Neg forbidden) }
-        ensures watches { (k : Kept) → option_map (λ w. w.watched_literals) result.0 ≡
+        ensures watches { (k : StoredLiterals) → option_map (λ w. w.watched_literals) result.0 ≡
             first_watches k (val tracker.now.entries) result.2 }
-        ensures conflict { (k : Kept) → result.1 ≡ is_conflict k (val tracker.now.entries) result.2 }
+        ensures conflict { (k : StoredLiterals) → result.1 ≡ is_conflict k (val tracker.now.entries) result.2 }
         ensures unlinked { IfSome result.0 IsUnlinked }
     {
         let conflict = is_conflict(tracker, parent, forbidden);
@@ -153,9 +157,9 @@ impl WatchedLiterals {
     ) -> (Option<Self>, bool, Clause<N>)
         ensures clause { result.2 ≡ ConstrainsParent parent aux set }
         ensures pair { option_map (λ w. w.watched_literals) result.0 ≡ watch_pair (Neg parent) (Neg aux) }
-        ensures watches { (k : Kept) → option_map (λ w. w.watched_literals) result.0 ≡
+        ensures watches { (k : StoredLiterals) → option_map (λ w. w.watched_literals) result.0 ≡
             first_watches k (val tracker.now.entries) result.2 }
-        ensures conflict { (k : Kept) → result.1 ≡ is_conflict k (val tracker.now.entries) result.2 }
+        ensures conflict { (k : StoredLiterals) → result.1 ≡ is_conflict k (val tracker.now.entries) result.2 }
         ensures unlinked { IfSome result.0 IsUnlinked }
     {
         let conflict = is_conflict(tracker, parent, aux);
@@ -175,7 +179,7 @@ impl WatchedLiterals {
     ) -> (Option<Self>, Clause<N>)
         ensures clause { result.1 ≡ ConstrainsExcluded candidate aux set }
         ensures pair { option_map (λ w. w.watched_literals) result.0 ≡ watch_pair (Neg candidate) (Pos aux) }
-        ensures watches { (k : Kept) (now : Values) →
+        ensures watches { (k : StoredLiterals) (now : Values) →
             option_map (λ w. w.watched_literals) result.0 ≡ first_watches k now result.1 }
         ensures unlinked { IfSome result.0 IsUnlinked }
     {
@@ -187,7 +191,7 @@ impl WatchedLiterals {
     pub fn lock<N>(locked: VariableId, other: VariableId) -> (Option<Self>, Clause<N>)
         ensures clause { result.1 ≡ Lock locked other }
         ensures pair { option_map (λ w. w.watched_literals) result.0 ≡ watch_pair (Neg 0) (Neg other) }
-        ensures watches { (k : Kept) (now : Values) →
+        ensures watches { (k : StoredLiterals) (now : Values) →
             option_map (λ w. w.watched_literals) result.0 ≡ first_watches k now result.1 }
         ensures unlinked { IfSome result.0 IsUnlinked }
     {
@@ -203,7 +207,7 @@ impl WatchedLiterals {
     ) -> (Option<Self>, Clause<N>)
         ensures clause { result.1 ≡ ForbidMultipleInstances candidate other name }
         ensures pair { option_map (λ w. w.watched_literals) result.0 ≡ watch_pair (Neg candidate) other }
-        ensures watches { (k : Kept) (now : Values) →
+        ensures watches { (k : StoredLiterals) (now : Values) →
             option_map (λ w. w.watched_literals) result.0 ≡ first_watches k now result.1 }
         ensures unlinked { IfSome result.0 IsUnlinked }
     {
@@ -240,7 +244,7 @@ impl WatchedLiterals {
     pub fn any_of<N>(selected: VariableId, other: VariableId) -> (Option<Self>, Clause<N>)
         ensures clause { result.1 ≡ AnyOf selected other }
         ensures pair { option_map (λ w. w.watched_literals) result.0 ≡ watch_pair (Pos selected) (Neg other) }
-        ensures watches { (k : Kept) (now : Values) →
+        ensures watches { (k : StoredLiterals) (now : Values) →
             option_map (λ w. w.watched_literals) result.0 ≡ first_watches k now result.1 }
         ensures unlinked { IfSome result.0 IsUnlinked }
     {
@@ -259,14 +263,14 @@ impl WatchedLiterals {
         ensures clause { result.2 ≡ Requires parent disjunction requirement }
         ensures watches { option_map (λ w. w.watched_literals) result.0
             ≡ watch_beside (Neg parent) (first_not_false (val tracker.now.entries) (literals_in others.now)) }
-        ensures conflict { result.1 ≡ is_met_by_parent (val tracker.now.entries) parent (literals_in others.now) }
+        ensures conflict { result.1 ≡ conflicts_with_parent (val tracker.now.entries) parent (literals_in others.now) }
         ensures unlinked { IfSome result.0 IsUnlinked }
     {
         let map = tracker.map();
         let first = others.find(|_| true);
         let other = others.find(|literal| !is_false(map, literal));
         let value = tracker.assigned_value(parent);
-        let conflict = is_met_by_parent(other.is_some(), first.is_some(), value);
+        let conflict = conflicts_with_parent(other.is_some(), first.is_some(), value);
         let watches = Self::beside(negative(parent), other.or(first));
         (
             watches,
@@ -287,7 +291,7 @@ impl WatchedLiterals {
         index: usize,
     ) -> Option<Literal>
         requires { index < 2 }
-        ensures { result ≡ next_unwatched (kept_in learnt.now lists.now disjunctions.now)
+        ensures { result ≡ next_unwatched (stored_in learnt.now lists.now disjunctions.now)
             (values_in map.now) clause.now self.now.watched_literals index }
     {
         if clause.is_binary() {
@@ -336,7 +340,7 @@ fn is_false<A: Allocator + Copy>(map: &DecisionMap<A>, literal: Literal) -> bool
 
 /// The id of a condition's disjunction.
 fn disjunction_of(condition: &Option<(DisjunctionId, &[Literal])>) -> Option<DisjunctionId>
-    ensures { result ≡ given_disjunction condition.now }
+    ensures { result ≡ disjunction_id condition.now }
 {
     match condition {
         Some((id, _)) => Some(*id),
@@ -346,7 +350,7 @@ fn disjunction_of(condition: &Option<(DisjunctionId, &[Literal])>) -> Option<Dis
 
 /// The literals of a condition's disjunction.
 fn literals_of<'c>(condition: &Option<(DisjunctionId, &'c [Literal])>) -> &'c [Literal]
-    ensures { result.now ≡ given_literals condition.now }
+    ensures { result.now ≡ disjunction_literals condition.now }
 {
     match condition {
         Some((_, literals)) => *literals,
@@ -363,7 +367,7 @@ fn may_replace<A: Allocator + Copy>(map: &DecisionMap<A>, other: Literal, litera
 
 /// Whether a clause is a conflict but for its parent, by whether some other literal isn't false, whether there is any,
 /// and the parent's value.
-fn is_met_by_parent(has_other: bool, has_first: bool, parent: Option<bool>) -> bool
+fn conflicts_with_parent(has_other: bool, has_first: bool, parent: Option<bool>) -> bool
     ensures { result ≡ (not has_other && (has_first && not (known_false parent))) }
 {
     !has_other && has_first && parent != Some(false)

@@ -5,10 +5,10 @@ use std::fmt;
 /// What became of an index.
 #[derive(Clone, Copy, Debug, PartialEq, Eq)]
 pub enum Outcome {
-    /// Versions are picked, and they serve.
+    /// Versions are picked, and are a solution.
     Picked = 0,
-    /// Nothing serves.
-    NoneServes = 1,
+    /// There is no solution.
+    NoSolution = 1,
     /// The search made too many steps, or memory was refused.
     GaveUp = 2,
     /// A line isn't in the format, or the text has no index, or several.
@@ -61,7 +61,7 @@ pub fn pick(index: &[u8], steps: u64, buffer: &mut [u8]) -> Result<(Outcome, usi
     };
     let outcome = match status {
         0 => Outcome::Picked,
-        1 => Outcome::NoneServes,
+        1 => Outcome::NoSolution,
         2 => Outcome::GaveUp,
         3 => Outcome::Unreadable,
         _ => return Err(TooSmall { needed }),

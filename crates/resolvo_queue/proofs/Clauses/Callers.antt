@@ -5,7 +5,7 @@ use Rattle.std.proofs.Common.{sym, ap, ◌∙◌, subst, refl, arith, length-app
 use Rattle.std.specs.Prelude.{All, Contains, IfSome, IsSome}
 use Rattle.std.proofs.lemmas.List.Elements.{All-weaker}
 use Rattle.resolvo_queue.proofs.Words.{candidates, clause_literals, condition_literals, counts, Disjunction, Entry}
-use Rattle.resolvo_queue.proofs.Words.{HasAll, HasParts, IsListedWell, kept_in, known_at, Listed, lists_or_none}
+use Rattle.resolvo_queue.proofs.Words.{HasAll, HasParts, IsListedWell, stored_in, known_at, Listed, lists_or_none}
 use Rattle.resolvo_queue.proofs.Words.{loaded_rows, lookup, owed_in, owed_of, Queue, Record, record_of, References}
 use Rattle.resolvo_queue.proofs.Words.{references, Requirement, rows, rows_at, same_requirement, sets_of, StandsOn}
 use Rattle.resolvo_queue.proofs.Words.{TrackedClause, val, values_of, walk_of, walks_in, walks_of, with_entry}
@@ -47,7 +47,7 @@ got_still f (y ∷ ys) x (suc i) lt = got_still f ys x i (omega (arith, lt))
 
 literals_still : {A : Type 0} (ds : List (Disjunction A)) (d : Disjunction A) (condition : Option ℕ) →
     IfSome condition (λ i. i < length ds) →
-    condition_literals (kept_in [] [] (ds ++ d ∷ [])) condition ≡ condition_literals (kept_in [] [] ds) condition
+    condition_literals (stored_in [] [] (ds ++ d ∷ [])) condition ≡ condition_literals (stored_in [] [] ds) condition
 literals_still ds d None h = refl
 literals_still ds d (Some i) h = ap (λ o. unwrap_or o [])
     (got_still (λ disjunction. disjunction.literals.items) ds d i h)

@@ -4,7 +4,7 @@ use Rattle.std.proofs.Common.{Result, Ok, Err, sym, ap, refl, ◌∙◌, subst}
 use Rattle.std.specs.Prelude.{All}
 use Rattle.std.proofs.lemmas.List.{length-map}
 use Rattle.resolvo_queue.proofs.Words.{AreCold, clause_literals, clause_of, ColdLack, counts, has, HasParts, Heats}
-use Rattle.resolvo_queue.proofs.Words.{IdSpace, IsKept, IsListedWell, IsUpdate, KeepsQueued, list_at, names_at, Queue}
+use Rattle.resolvo_queue.proofs.Words.{IdSpace, IsWellFormed, IsListedWell, IsUpdate, KeepsQueued, list_at, names_at, Queue}
 use Rattle.resolvo_queue.proofs.Words.{References, Stands, StandsOn, StoreError, TrackedClause, Values, values_of}
 use Rattle.resolvo_queue.proofs.Words.{variable_of}
 use Rattle.resolvo_queue.specs.References.{rows_in}
@@ -15,7 +15,7 @@ module _ {N H : Type 0} (has : H → N → Bool) (q q' : Queue N H) (heats : Hea
   same_length = sym (length-map q'.inside.clauses clause_of) ∙
       (ap length heats.clauses ∙ length-map q.inside.clauses clause_of)
 
-  pub kept_heated : IsKept has q → q'.names ≡ q.names → q'.hot ≡ q.hot → IsKept has q'
+  pub kept_heated : IsWellFormed has q → q'.names ≡ q.names → q'.hot ≡ q.hot → IsWellFormed has q'
   kept_heated kept names hot = record {
     order = heats.in_order kept.order;
     names = ap length names ∙ (kept.names ∙ sym same_length);
@@ -55,8 +55,8 @@ fits_if_ok true res x ok large = let bad : Ok x ≡ Err IdSpace = sym ok ∙ lar
 fits_if_ok false res x ok large = refl
 
 -- one name more is hot, or its insertion was refused
-pub kept_hot : {N H : Type 0} (has : H → N → Bool) (q : Queue N H) (hot : H) → IsKept has q →
-    AreCold (has hot) q.names q.inside.clauses → IsKept has (record q { hot = hot })
+pub kept_hot : {N H : Type 0} (has : H → N → Bool) (q : Queue N H) (hot : H) → IsWellFormed has q →
+    AreCold (has hot) q.names q.inside.clauses → IsWellFormed has (record q { hot = hot })
 kept_hot has q hot kept cold = record { order = kept.order; names = kept.names; woken = kept.woken; cold = cold }
 
 pub stands_hot : {N S A H : Type 0} (refs : References N S A) (q : Queue N H) (hot : H) → StandsOn refs q →

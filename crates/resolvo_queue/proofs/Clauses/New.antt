@@ -4,7 +4,7 @@ use Rattle.std.proofs.Common.{Option, None, Some, MatchOption, slice_get, sym, a
 use Rattle.std.specs.Prelude.{All, Contains}
 use Rattle.std.proofs.lemmas.List.Elements.{All-nil}
 use Rattle.resolvo_queue.proofs.Words.{clause_of, frontier, has, HasNoClause, HasParts, is_empty_queue, IsFirstOf}
-use Rattle.resolvo_queue.proofs.Words.{IsInOrder, IsKept, known_at, list_any, list_at, Queue, Record, References}
+use Rattle.resolvo_queue.proofs.Words.{IsInOrder, IsWellFormed, known_at, list_any, list_at, Queue, Record, References}
 use Rattle.resolvo_queue.proofs.Words.{rows_at, same_requirement, StandsOn, TrackedClause, Tracking, values_of}
 use Rattle.resolvo_queue.specs.References.{rows_in}
 use Rattle.resolvo_queue.proofs.Lists.{stands_if_contains}
@@ -30,7 +30,7 @@ order_new t none lists empty = record {
 }
 
 pub kept_new : {N H : Type 0} (has : H → N → Bool) (q : Queue N H) → q.inside.clauses ≡ [] → q.inside.by_parent ≡ [] →
-    is_empty_queue q.inside.queued → q.names ≡ [] → q.woken ≡ 0 → IsKept has q
+    is_empty_queue q.inside.queued → q.names ≡ [] → q.woken ≡ 0 → IsWellFormed has q
 kept_new has q none lists empty names woken = record {
   order = order_new q.inside none lists empty;
   names = ap length names ∙ ap length (sym none);

@@ -7,7 +7,7 @@ use Rattle.std.proofs.lemmas.Bool.{ltb-false, ltb-true}
 use Rattle.std.proofs.lemmas.List.{map-append}
 use Rattle.std.proofs.lemmas.List.Elements.{All-cons, All-nil, All-push, All-weaker}
 use Rattle.std.proofs.lemmas.Option.{slice_get_within}
-use Rattle.resolvo_queue.proofs.Words.{AreCold, clause_literals, clause_of, counts, HasParts, IsAsBefore, IsKept}
+use Rattle.resolvo_queue.proofs.Words.{AreCold, clause_literals, clause_of, counts, HasParts, IsAsBefore, IsWellFormed}
 use Rattle.resolvo_queue.proofs.Words.{KeepsQueued, list_any, list_at, Lit, literals_in, names_at, Position, Queue}
 use Rattle.resolvo_queue.proofs.Words.{Queued, References, Registers, RequiresClause, SameValues, Stands, StandsOn}
 use Rattle.resolvo_queue.proofs.Words.{TrackedClause, Tracking, Values, values_of, variable_of}
@@ -58,7 +58,7 @@ registered_whole clause is_hot literals old now r = ap (map clause_of) r.clauses
 
 module _ {N H : Type 0} (has : H → N → Bool) (q q' : Queue N H) (clause : RequiresClause) (is_hot : Bool)
     (literals : List Lit) (its_names : List N)
-    (kept : IsKept has q) (registers : Registers clause is_hot literals q.inside q'.inside)
+    (kept : IsWellFormed has q) (registers : Registers clause is_hot literals q.inside q'.inside)
     (woken : q'.woken ≡ q.woken) where
   abbrev cs : List TrackedClause
   cs = q.inside.clauses
@@ -67,7 +67,7 @@ module _ {N H : Type 0} (has : H → N → Bool) (q q' : Queue N H) (clause : Re
   new = registers.new
 
   pub kept_registered : length q.inside.clauses < 2 ^ 32 - 1 → q'.names ≡ q.names ++ its_names ∷ [] →
-      SameValues (has q.hot) (has q'.hot) → is_hot ≡ list_any (has q.hot) its_names → IsKept has q'
+      SameValues (has q.hot) (has q'.hot) → is_hot ≡ list_any (has q.hot) its_names → IsWellFormed has q'
   kept_registered few names hot is = record {
     order = registers_in_order clause is_hot literals q.inside q'.inside few kept.order registers;
     names = (
@@ -147,7 +147,7 @@ module _ {N H : Type 0} (has : H → N → Bool) (q q' : Queue N H) (clause : Re
 
 module _ {N H : Type 0} (has : H → N → Bool) (q q' : Queue N H) (before : IsAsBefore q.inside q'.inside)
     (woken : q'.woken ≡ q.woken) where
-  pub kept_refused : IsKept has q → q'.names ≡ q.names → q'.hot ≡ q.hot → IsKept has q'
+  pub kept_refused : IsWellFormed has q → q'.names ≡ q.names → q'.hot ≡ q.hot → IsWellFormed has q'
   kept_refused kept names hot = record {
     order = refused_in_order q.inside q'.inside kept.order before;
     names = ap length names ∙ (kept.names ∙ ap length (sym before.clauses));

@@ -5,7 +5,7 @@ use Rattle.std.proofs.Common.{slice_get, sym, ap, refl, ◌∙◌, subst}
 use Rattle.std.specs.Prelude.{All, OnErr}
 use Rattle.std.proofs.lemmas.List.{take-take}
 use Rattle.resolvo_queue.proofs.Words.{AgreesBelow, AllWokenFrom, AreCold, clause_literals, clause_of, counts, Decision}
-use Rattle.resolvo_queue.proofs.Words.{FindsAll, GrowsBy, has, HasParts, is_among, IsInOrder, IsKept, IsListedWell}
+use Rattle.resolvo_queue.proofs.Words.{FindsAll, GrowsBy, has, HasParts, is_among, IsInOrder, IsWellFormed, IsListedWell}
 use Rattle.resolvo_queue.proofs.Words.{IsOfClause, IsPlaceOf, IsReady, KeepsQueued, known_true, list_at, Listed}
 use Rattle.resolvo_queue.proofs.Words.{listing, Lit, OnlyForgets, Position, Queue, Queued, Record, References}
 use Rattle.resolvo_queue.proofs.Words.{Requirement, Row, SameElsewhere, SameFound, SameValues, Stands, StandsOn}
@@ -63,7 +63,7 @@ order_after_sync {t} {u} clauses by_parent only grows order =
     (λ p e. elim (grows.all_new p e) [ inl was ↦ order.all_of p was | inr new ↦ new ])
     (λ p e. elim (grows.hot_new p e) [ inl was ↦ order.hot_of p was | inr new ↦ new ]) order
 
-module _ {N S A H : Type 0} (has : H → N → Bool) (refs : References N S A) (q q' : Queue N H) (kept : IsKept has q)
+module _ {N S A H : Type 0} (has : H → N → Bool) (refs : References N S A) (q q' : Queue N H) (kept : IsWellFormed has q)
     (stands : StandsOn refs q) (whole : q'.clauses ≡ q.clauses) (clauses : q'.inside.clauses ≡ q.inside.clauses)
     (by_condition : q'.inside.by_condition ≡ q.inside.by_condition) where
   abbrev cs : List TrackedClause
@@ -203,9 +203,9 @@ order_asked {t} {u} clauses by_parent found ready order =
     order_stays t u clauses by_parent found ready.placed ready.all_of ready.hot_of order
 
 -- what always holds of a queue, where a sync or a question left its clauses
-pub kept_still : {N H : Type 0} {has : H → N → Bool} {q q' : Queue N H} → IsKept has q → IsInOrder q'.inside →
+pub kept_still : {N H : Type 0} {has : H → N → Bool} {q q' : Queue N H} → IsWellFormed has q → IsInOrder q'.inside →
     q'.inside.clauses ≡ q.inside.clauses → q'.names ≡ q.names → q'.hot ≡ q.hot →
-    q'.woken ≤ length q.inside.clauses → IsKept has q'
+    q'.woken ≤ length q.inside.clauses → IsWellFormed has q'
 kept_still {N} {H} {has} {q} {q'} kept order clauses names hot woken = record {
   order = order;
   names = ap length names ∙ (kept.names ∙ ap length (sym clauses));

@@ -3,8 +3,8 @@ use Rattle.std.proofs.Common.{◌≡◌, ℕ, zero, suc, Bool, true, false, ◌&
 use Rattle.std.proofs.Common.{map, Option, None, Some, IfSome, slice_get, ap, ◌∙◌, subst, arith}
 use Rattle.std.specs.Prelude.{All}
 use Rattle.std.proofs.lemmas.List.Elements.{All-cons, All-head, All-nil, All-tail}
-use Rattle.resolvo_queue.proofs.Words.{are_literals_false, AreAskable, AreNamed, CanWalk, clause_of, ColdHasNoScore}
-use Rattle.resolvo_queue.proofs.Words.{Frontier, frontier, HasParts, IsKept, known_true, Lists, lists_loaded, Lit}
+use Rattle.resolvo_queue.proofs.Words.{are_literals_false, CanInspectAll, AreNamed, CanWalk, clause_of, ColdHasNoScore}
+use Rattle.resolvo_queue.proofs.Words.{Frontier, frontier, HasParts, IsWellFormed, known_true, Lists, lists_loaded, Lit}
 use Rattle.resolvo_queue.proofs.Words.{loaded_rows, names_at, Queue, References, RequiresClause, sets_of, TrackedClause}
 use Rattle.resolvo_queue.proofs.Words.{Universe, Values}
 use Rattle.resolvo_queue.proofs.Rows.States.{frontier-known}
@@ -19,7 +19,7 @@ all_tracked P (x ∷ xs) a zero c e = subst (λ (y : TrackedClause). P (clause_o
 all_tracked P (x ∷ xs) a (suc n) c e = all_tracked P xs (λ k d h. a (suc k) d (omega arith)) n c e
 
 pub askable_tracked : {N S A : Type 0} (refs : References N S A) (cs : List TrackedClause) →
-    All (HasParts refs) (map clause_of cs) → All (CanWalk refs) (map clause_of cs) → AreAskable refs cs
+    All (HasParts refs) (map clause_of cs) → All (CanWalk refs) (map clause_of cs) → CanInspectAll refs cs
 askable_tracked refs cs parts walkable n c e = record {
   condition = (all_tracked (HasParts refs) cs parts n c e).disjunction;
   walkable = all_tracked (CanWalk refs) cs walkable n c e;
@@ -61,7 +61,7 @@ named_at universe (x ∷ xs) (suc n) c e = named_at universe xs n c e
 
 -- a clause that isn't hot requires no version set of a hot name
 pub cold_sets : {N S H : Type 0} (universe : Universe N S) (has : H → N → Bool) (q : Queue N H) →
-    q.clauses ≡ map clause_of q.inside.clauses → AreNamed universe q → IsKept has q →
+    q.clauses ≡ map clause_of q.inside.clauses → AreNamed universe q → IsWellFormed has q →
     (n : ℕ) (c : TrackedClause) → slice_get q.inside.clauses n ≡ Some c → c.is_hot ≡ false →
     All (λ v. has q.hot (universe.set_name v) ≡ false) (sets_of universe c.requirement)
 cold_sets universe has q whole named kept n c e cool =

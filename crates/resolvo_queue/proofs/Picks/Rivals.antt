@@ -1,6 +1,6 @@
 -- A rival that is gone through after a look at the queue, whether at once or behind another one.
 use Rattle.std.proofs.Common.{◌≡◌, ℕ, true, false, Some, slice_get, ap, sym, ◌∙◌, subst}
-use Rattle.resolvo_queue.proofs.Words.{AreLocated, AreUpTo, AskedOn, clause_literals, ClauseIndex, ColdHasNoScore}
+use Rattle.resolvo_queue.proofs.Words.{AreLocated, AreUpTo, CanDecideOn, clause_literals, ClauseIndex, ColdHasNoScore}
 use Rattle.resolvo_queue.proofs.Words.{Grounds, Group, has_of, improved, ImprovedBy, is_after, IsBefore, IsOfClause}
 use Rattle.resolvo_queue.proofs.Words.{Lists, Offer, offers_of, offers_on, Position, references, rest_picked, set_of}
 use Rattle.resolvo_queue.proofs.Words.{TrackedClauses}
@@ -18,7 +18,7 @@ by_lists on lists = record {
 }
 
 module _ {N S A : Type 0} (on : Grounds N S A) {looked : TrackedClauses A} {index : ClauseIndex A}
-    (asked : AskedOn on looked) (same : looked.index ≡ index) (group : Group) (p : Position)
+    (asked : CanDecideOn on looked) (same : looked.index ≡ index) (group : Group) (p : Position)
     (there : has_of group (set_of looked.only_hot looked.queued) p ≡ true) where
   -- it is a clause's, as long as the clauses are the same
   pub rival_of : IsOfClause index.clauses.items p

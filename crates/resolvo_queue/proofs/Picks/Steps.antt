@@ -1,7 +1,7 @@
 -- What a question keeps, step by step.
 use Rattle.std.proofs.Common.{◌≡◌, Bool, true, false, List, get_or, Option, Some, slice_get, ap, refl, ◌∙◌, subst}
-use Rattle.resolvo_queue.proofs.Words.{CanBeAsked, clause_literals, ClauseIndex, Disjunction, eligible_frontier}
-use Rattle.resolvo_queue.proofs.Words.{Frontier, frontier, has, IsAskable, IsListedWell, IsOfClause, IsReady, known_at}
+use Rattle.resolvo_queue.proofs.Words.{CanDecide, clause_literals, ClauseIndex, Disjunction, eligible_frontier}
+use Rattle.resolvo_queue.proofs.Words.{Frontier, frontier, has, CanInspect, IsListedWell, IsOfClause, IsReady, known_at}
 use Rattle.resolvo_queue.proofs.Words.{Learns, Listed, Lists, LosesOnly, may_be, OnlyWalks, Position, Queued, Reading}
 use Rattle.resolvo_queue.proofs.Words.{Record, References, references, Requirement, set_of, TrackedClause}
 use Rattle.resolvo_queue.proofs.Words.{TrackedClauses, Universe, Values}
@@ -47,33 +47,33 @@ along_walks f {old} {now} {before} {after} walks =
 
 -- the same by other lists, if they are equal
 pub asked_by : {N S A : Type 0} {universe : Universe N S} {lists lists' : Lists A} {disjunctions : List (Disjunction A)}
-    {val : Values} {t : TrackedClauses A} → lists ≡ lists' → CanBeAsked (references universe lists disjunctions) val t →
-    CanBeAsked (references universe lists' disjunctions) val t
+    {val : Values} {t : TrackedClauses A} → lists ≡ lists' → CanDecide (references universe lists disjunctions) val t →
+    CanDecide (references universe lists' disjunctions) val t
 asked_by {universe = universe} {disjunctions = disjunctions} {val = val} {t = t} e asked =
-    subst (λ ls. CanBeAsked (references universe ls disjunctions) val t) e asked
+    subst (λ ls. CanDecide (references universe ls disjunctions) val t) e asked
 
 module _ {N S A : Type 0} {refs : References N S A} {val : Values} where
   -- the same in the words of other clauses, if they are equal
-  pub ready_by : {t : TrackedClauses A} {index : ClauseIndex A} → t.index ≡ index → CanBeAsked refs val t →
+  pub ready_by : {t : TrackedClauses A} {index : ClauseIndex A} → t.index ≡ index → CanDecide refs val t →
       IsReady index.clauses.items (clause_literals refs) (rows_in refs) val t.requirements t.queued
   ready_by {t} e asked = subst (λ ix. IsReady ix.clauses.items (clause_literals refs)
       (rows_in refs) val t.requirements t.queued) e asked.ready
 
   -- what is gone through holds positions of clauses
-  pub of_clause : {t : TrackedClauses A} → CanBeAsked refs val t → (only_hot : Bool) (p : Position) →
+  pub of_clause : {t : TrackedClauses A} → CanDecide refs val t → (only_hot : Bool) (p : Position) →
       has (set_of only_hot t.queued) p ≡ true → IsOfClause t.index.clauses.items p
   of_clause asked true p h = asked.ready.hot_of p h
   of_clause asked false p h = asked.ready.all_of p h
 
 -- a look at the clause that was read at a position
 module _ {N S A : Type 0} {refs : References N S A} {val : Values} {t : TrackedClauses A}
-    (asked : CanBeAsked refs val t) (p : Position) (of : IsOfClause t.index.clauses.items p) (c : TrackedClause)
+    (asked : CanDecide refs val t) (p : Position) (of : IsOfClause t.index.clauses.items p) (c : TrackedClause)
     (read : c ≡ get_or t.index.clauses.items p.number c) where
   here : slice_get t.index.clauses.items p.number ≡ Some c
   here = read_here t.index.clauses.items p of c read
 
-  pub askable_here : IsAskable refs c
-  askable_here = asked.askable p.number c here
+  pub askable_here : CanInspect refs c
+  askable_here = asked.inspectable p.number c here
 
   pub right_here : (f : Option Frontier) → known_at t.requirements c.record ≡ Some f →
       f ≡ frontier val (rows_in refs c.requirement)
@@ -90,7 +90,7 @@ module _ {N S A : Type 0} {refs : References N S A} {val : Values} {t : TrackedC
   module _ (ts : List Record) (o : Listed) (listed : IsListedWell refs.lists o ts) (log log' : List Requirement)
       (learns : Learns c.requirement c.record (frontier val (rows_in refs c.requirement)) t.requirements
       ts log log') where
-    pub looked_asked : CanBeAsked refs val (record {
+    pub looked_asked : CanDecide refs val (record {
       index = t.index;
       queued = t.queued;
       requirements = ts;
@@ -102,14 +102,14 @@ module _ {N S A : Type 0} {refs : References N S A} {val : Values} {t : TrackedC
     looked_asked = record {
       located = asked.located;
       first = asked.first;
-      askable = asked.askable;
+      inspectable = asked.inspectable;
       listed = listed;
       ready = looked_ready t.index.clauses.items (clause_literals refs)
           (rows_in refs) val t.requirements t.queued asked.ready p.number c here ts log log' learns;
     }
 
     pub dropped_asked : (q : Queued) → LosesOnly p t.queued q → may_be val (clause_literals refs) ts c ≡ false →
-        CanBeAsked refs val (record {
+        CanDecide refs val (record {
           index = t.index;
           queued = q;
           requirements = ts;
@@ -121,7 +121,7 @@ module _ {N S A : Type 0} {refs : References N S A} {val : Values} {t : TrackedC
     dropped_asked q loses not_possible = record {
       located = asked.located;
       first = asked.first;
-      askable = asked.askable;
+      inspectable = asked.inspectable;
       listed = listed;
       ready = dropped_ready t.index.clauses.items (clause_literals refs)
           (rows_in refs) val t.requirements t.queued asked.ready p.number c here ts log log' learns

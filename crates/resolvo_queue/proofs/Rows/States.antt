@@ -10,7 +10,7 @@ use Rattle.std.proofs.lemmas.List.Sums.{fold-append}
 use Rattle.resolvo_queue.proofs.Words.{all_false, AllByRecursion, AllFalse, AreUnionSetsKnown, counted, Frontier}
 use Rattle.resolvo_queue.proofs.Words.{frontier, frontier_at, has_true_row, is_undecided_row, known_false, known_true}
 use Rattle.resolvo_queue.proofs.Words.{knows_requirement, list_all, list_rows, lists_loaded, lists_or_none, loaded_rows}
-use Rattle.resolvo_queue.proofs.Words.{lookup, Met, Requirement, Row, rows, RowState, same_requirement, sets_of, Single}
+use Rattle.resolvo_queue.proofs.Words.{lookup, Satisfied, Requirement, Row, rows, RowState, same_requirement, sets_of, Single}
 use Rattle.resolvo_queue.proofs.Words.{state_of, Undecided, undecided, Union, Universe, unmet_state, Values, Vec}
 use Rattle.resolvo_queue.proofs.Words.{VersionSetId, with_row, with_rows}
 
@@ -21,11 +21,11 @@ no_rows (s ∷ ss) = refl
 
 module _ (val : Values) where
   -- a true row ends the walk
-  pub met-rows : (rs : List Row) → with_rows val Met rs ≡ Met
+  pub met-rows : (rs : List Row) → with_rows val Satisfied rs ≡ Satisfied
   met-rows [] = refl
   met-rows (r ∷ rs) = go (val r.variable) (met-rows rs)
     where
-      go : (v : Option Bool) → with_rows val Met rs ≡ Met → with_rows val (with_row Met v r) rs ≡ Met
+      go : (v : Option Bool) → with_rows val Satisfied rs ≡ Satisfied → with_rows val (with_row Satisfied v r) rs ≡ Satisfied
       go None e = e
       go (Some true) e = e
       go (Some false) e = e
@@ -45,7 +45,7 @@ module _ (val : Values) where
   -- behind an undecided row the walk counts
   undecided-rows : (v : ℕ) (set : VersionSetId) (n : ℕ) (rs : List Row) →
       with_rows val (Undecided (record { variable = v; set = set; count = n })) rs
-      ≡ cond (has_true_row val rs) Met (Undecided (record { variable = v; set = set; count = count_from set n rs }))
+      ≡ cond (has_true_row val rs) Satisfied (Undecided (record { variable = v; set = set; count = count_from set n rs }))
   undecided-rows v set n [] = refl
   undecided-rows v set n (r ∷ rs) = go (val r.variable) (λ m. undecided-rows v set m rs)
     where
@@ -53,18 +53,18 @@ module _ (val : Values) where
       at m = Undecided (record { variable = v; set = set; count = m })
 
       Behind : ℕ → Type 0
-      Behind m = with_rows val (at m) rs ≡ cond (has_true_row val rs) Met (at (count_from set m rs))
+      Behind m = with_rows val (at m) rs ≡ cond (has_true_row val rs) Satisfied (at (count_from set m rs))
 
       go : (w : Option Bool) → ((m : ℕ) → Behind m) → with_rows val (with_row (at n) w r) rs
-          ≡ cond (known_true w || has_true_row val rs) Met
+          ≡ cond (known_true w || has_true_row val rs) Satisfied
           (at (count_from set (n + cond (eqb r.set.0 set.0 && undecided w) 1 0) rs))
       go None more = more (n + cond (eqb r.set.0 set.0) 1 0)
-          ∙ ap (λ b. cond (has_true_row val rs) Met (at (count_from set (n + cond b 1 0) rs)))
+          ∙ ap (λ b. cond (has_true_row val rs) Satisfied (at (count_from set (n + cond b 1 0) rs)))
           (sym (and-true (eqb r.set.0 set.0)))
       go (Some true) more = met-rows rs
       go (Some false) more = more n
-          ∙ ap (λ m. cond (has_true_row val rs) Met (at (count_from set m rs))) (sym (add-zero n))
-          ∙ ap (λ b. cond (has_true_row val rs) Met (at (count_from set (n + cond b 1 0) rs)))
+          ∙ ap (λ m. cond (has_true_row val rs) Satisfied (at (count_from set m rs))) (sym (add-zero n))
+          ∙ ap (λ b. cond (has_true_row val rs) Satisfied (at (count_from set (n + cond b 1 0) rs)))
           (sym (and-false (eqb r.set.0 set.0)))
 
   -- the walk finds the state
@@ -74,7 +74,7 @@ module _ (val : Values) where
     where
       -- the state by the row's value
       by : Option Bool → RowState
-      by w = cond (known_true w || has_true_row val rs) Met
+      by w = cond (known_true w || has_true_row val rs) Satisfied
           (unmet_state (cond (known_true w || has_true_row val rs) None (option_map (λ (row : Row). record {
             variable = row.variable;
             set = row.set;
@@ -82,7 +82,7 @@ module _ (val : Values) where
           }) (cond (undecided w) (Some r) (find (is_undecided_row val) rs)))))
 
       hidden : (b : Bool) (s : RowState) (f : Option Frontier) → (b ≡ false → s ≡ unmet_state f) →
-          cond b Met s ≡ cond b Met (unmet_state (cond b None f))
+          cond b Satisfied s ≡ cond b Satisfied (unmet_state (cond b None f))
       hidden true s f h = refl
       hidden false s f h = h refl
 
@@ -101,7 +101,7 @@ module _ (val : Values) where
           (same_count row)
 
       shown : (b : Bool) (o p : Option Frontier) → unmet_state o ≡ unmet_state p →
-          cond b Met (unmet_state (cond b None o)) ≡ cond b Met (unmet_state (cond b None p))
+          cond b Satisfied (unmet_state (cond b None o)) ≡ cond b Satisfied (unmet_state (cond b None p))
       shown true o p e = refl
       shown false o p e = e
 
@@ -122,7 +122,7 @@ module _ (val : Values) where
       counted-row : (s : RowState) (w : Option Bool) → counted (with_row s w r) ≤ counted s + 1
       counted-row s (Some true) = omega arith
       counted-row s (Some false) = omega arith
-      counted-row Met None = omega arith
+      counted-row Satisfied None = omega arith
       counted-row AllFalse None = omega arith
       counted-row (Undecided f) None = go (eqb r.set.0 f.set.0)
         where
@@ -155,7 +155,7 @@ module _ (val : Values) where
       sym (ap (with_rows val state) (no_rows sets)) ∙ (sym (ap (λ ls. with_rows val state (rows sets ls)) e) ∙ h)
 
   -- a list that leads to a true row
-  pub met-whole : (whole next : RowState) (rs : List Row) → next ≡ Met → with_rows val next rs ≡ whole → Met ≡ whole
+  pub met-whole : (whole next : RowState) (rs : List Row) → next ≡ Satisfied → with_rows val next rs ≡ whole → Satisfied ≡ whole
   met-whole whole next rs e h = sym (met-rows rs) ∙ (sym (ap (λ t. with_rows val t rs) e) ∙ h)
 
   -- the rows of a list are counted with those before, and so few are left
@@ -292,8 +292,8 @@ undecided-known universe val loaded r f unions known e =
     (sets_known universe unions r known)) e
   where
     go : (t : Bool) (o : Option Frontier) → IfSome o (λ g. universe.knows_set g.set ≡ true) →
-        cond t Met (unmet_state o) ≡ Undecided f → universe.knows_set f.set ≡ true
-    go true o h e = let bad : Met ≡ Undecided f = e in cc
+        cond t Satisfied (unmet_state o) ≡ Undecided f → universe.knows_set f.set ≡ true
+    go true o h e = let bad : Satisfied ≡ Undecided f = e in cc
     go false None h e = let bad : AllFalse ≡ Undecided f = e in cc
     go false (Some g) h e = let same : Undecided g ≡ Undecided f = e in let eq : g ≡ f = cc in
         subst (λ x. universe.knows_set x.set ≡ true) eq h

@@ -1,10 +1,10 @@
--- What a question asks of the tracked clauses, what it keeps of them, and what it and a reader give.
+-- What a question requires of the tracked clauses, what it changes of them, and what it and a reader give.
 use Rattle.std.specs.Prelude.{◌≡◌, ℕ, List, Option, None, Some, MatchOption, slice_get}
 use Rattle.resolvo_queue.specs.Types.{Frontier, Position, Requirement, TrackedClause, Universe, Values, values_in}
 use Rattle.resolvo_queue.specs.Types.{VersionSetId}
 use Rattle.resolvo_queue.specs.Rows.Listing.{IsListedWell}
 use Rattle.resolvo_queue.specs.Occurrences.{Reading}
-use Rattle.resolvo_queue.specs.Pick.Questions.{AreAskable, clause_literals}
+use Rattle.resolvo_queue.specs.Pick.Questions.{CanInspectAll, clause_literals}
 use Rattle.resolvo_queue.specs.Pick.Ready.{AreLocated, IsReady, ColdHasNoScore, improved, offered, rest_picked}
 use Rattle.resolvo_queue.specs.References.{References, rows_in, references}
 use Rattle.resolvo_queue.specs.Parts.{OwesSame, SameFound, Record, known_at}
@@ -14,15 +14,15 @@ use Rattle.resolvo_queue.specs.declared.tracked_clauses.TrackedClauses.{TrackedC
 use Rattle.resolvo_queue.specs.Pick.{Offer, best_offer}
 use Rattle.resolvo_queue.specs.Pick.Inspection.{Learns, eligible_frontier, offer_of}
 use Rattle.resolvo_queue.specs.Rows.{frontier}
-use Rattle.resolvo_queue.specs.declared.asked.Question.{Question}
+use Rattle.resolvo_queue.specs.declared.questions.Question.{Question}
 use Rattle.resolvo_queue.specs.declared.offer.Candidate.{Candidate}
 
--- all clauses can be looked at, and who may be eligible is queued
-pub record CanBeAsked {N S A : Type 0} (refs : References N S A) (val : Values)
+-- all clauses can be inspected, and each that may be eligible is queued
+pub record CanDecide {N S A : Type 0} (refs : References N S A) (val : Values)
     (tracked : TrackedClauses A) : Type 0 where
   pub located : AreLocated tracked.index.clauses.items
   pub first : BeginFirst tracked.index.clauses.items tracked.index.by_parent
-  pub askable : AreAskable refs tracked.index.clauses.items
+  pub inspectable : CanInspectAll refs tracked.index.clauses.items
   pub listed : IsListedWell refs.lists tracked.occurrences tracked.requirements
   pub ready : IsReady tracked.index.clauses.items (clause_literals refs)
       (rows_in refs) val tracked.requirements tracked.queued
@@ -82,9 +82,9 @@ module _ {N S A : Type 0} (on : Grounds N S A) where
   ImprovedBy tracked p old new =
       (c : TrackedClause) → slice_get tracked.index.clauses.items p.number ≡ Some c → new ≡ improved old (offers_on c)
 
-  -- all clauses can be looked at, and who may be eligible is queued
-  abbrev pub AskedOn : TrackedClauses A → Type 0
-  AskedOn tracked = CanBeAsked on.refs on.val tracked
+  -- all clauses can be inspected, and each that may be eligible is queued
+  abbrev pub CanDecideOn : TrackedClauses A → Type 0
+  CanDecideOn tracked = CanDecide on.refs on.val tracked
 
   -- a clause that isn't hot has no score
   abbrev pub ColdOn : TrackedClauses A → Type 0

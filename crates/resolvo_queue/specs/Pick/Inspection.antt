@@ -1,4 +1,4 @@
--- What looking at a clause answers, and what it leaves.
+-- What the inspection of a clause answers, and what it changes.
 use Rattle.std.specs.Prelude.{◌≡◌, ℕ, Bool, true, ◌&&◌, if◌then◌else◌, ◌⊎◌}
 use Rattle.std.specs.Prelude.{List, [], ◌∷◌, ◌++◌, Option, None, option_map}
 use Rattle.resolvo_queue.specs.Types.{Frontier, known_true, Lit, Requirement, RequiresClause, TrackedClause, Values}

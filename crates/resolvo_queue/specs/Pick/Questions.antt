@@ -13,9 +13,9 @@ module _ {N S A : Type 0} (refs : References N S A) where
   clause_literals c = literals_in refs c.condition
 
   -- what the code needs to look at a clause
-  pub record IsAskable (c : TrackedClause) : Type 0 where
+  pub record CanInspect (c : TrackedClause) : Type 0 where
     pub condition : IfSome c.condition (λ d. d < length refs.disjunctions)
     pub walkable : IsWalkable refs.universe refs.lists c.requirement
 
-  abbrev pub AreAskable : List TrackedClause → Type 0
-  AreAskable clauses = (n : ℕ) (c : TrackedClause) → slice_get clauses n ≡ Some c → IsAskable c
+  abbrev pub CanInspectAll : List TrackedClause → Type 0
+  CanInspectAll clauses = (n : ℕ) (c : TrackedClause) → slice_get clauses n ≡ Some c → CanInspect c

@@ -5,9 +5,9 @@ ghost use Rattle.resolvo_queue.specs.Queue.{StandsOn, falsified_in};
 ghost use Rattle.resolvo_queue.specs.References.{CanWalk, references};
 ghost use Rattle.resolvo_queue.specs.Scan.First.{first_of};
 
-use crate::asked::Asked;
 use crate::decide_queue::DecideQueue;
 use crate::falsification::{falsified_clause, id_of};
+use crate::questions::FalsifiedQuestion;
 use crate::requires_clause::RequiresClause;
 use clauses::Disjunction;
 use decisions::DecisionMap;
@@ -31,13 +31,13 @@ impl<D: DependencyProvider> DecideQueue<D> {
         ensures { let refs = references (D.universe provider.now) lists.now disjunctions.now in
             result ≡ option_map (λ c. c.clause_id) (falsified_in refs (values_in map.now) self.now) }
     {
-        let asked = Asked {
+        let question = FalsifiedQuestion {
             map,
             lists,
             disjunctions,
             interner: provider,
         };
-        id_of(falsified_clause(self.tracked.index.clauses.as_slice(), &asked))
+        id_of(falsified_clause(self.tracked.index.clauses.as_slice(), &question))
     }
 
     /// The clause with a number: numbers are those of registration. None past the end. Constant time.

@@ -3,7 +3,7 @@ ghost use Rattle.std.specs.Prelude.{◌≡◌, ◌<◌, true, false, length, Err
 ghost use Rattle.typed_ids.specs.declared.error.StoreError.TheVariants.{IdSpace};
 ghost use Rattle.typed_ids.specs.Refusals.{IsGrowthRefusal};
 ghost use Rattle.decisions.specs.Trail.{val};
-ghost use Rattle.clauses.specs.Clauses.{Kept, first_watches, is_conflict};
+ghost use Rattle.clauses.specs.Clauses.{StoredLiterals, first_watches, is_conflict};
 ghost use Rattle.watch_map.specs.Watching.{AreTwoOrNone};
 ghost use Rattle.watch_map.specs.ClauseList.{contents, literals_watched, two_or_none, is_full, is_learnt_full};
 ghost use Rattle.watch_map.specs.ClauseList.{with_learnt};
@@ -36,7 +36,7 @@ impl<D: DependencyProvider + Drop> ClauseStore<D> {
     pub fn root(&mut self) -> Result<Added, StoreError>
         ensures step { ⟦<D as Abstract>⟧.step self.old Root (replied added result) self.new }
         ensures provider { self.new.provider ≡ self.old.provider }
-        ensures asked { self.new.asked ≡ self.old.asked }
+        ensures queue_state { self.new.queue_state ≡ self.old.queue_state }
     {
         self.add(Clause::InstallRoot)
     }
@@ -51,7 +51,7 @@ impl<D: DependencyProvider + Drop> ClauseStore<D> {
         ensures step { ⟦<D as Abstract>⟧.step self.old (Constrains parent forbidden set)
             (replied added result) self.new }
         ensures provider { self.new.provider ≡ self.old.provider }
-        ensures asked { self.new.asked ≡ self.old.asked }
+        ensures queue_state { self.new.queue_state ≡ self.old.queue_state }
     {
         self.add(Clause::Constrains(parent, forbidden, set))
     }
@@ -67,7 +67,7 @@ impl<D: DependencyProvider + Drop> ClauseStore<D> {
         ensures step { ⟦<D as Abstract>⟧.step self.old (ConstrainsExcluded candidate aux set)
             (replied added result) self.new }
         ensures provider { self.new.provider ≡ self.old.provider }
-        ensures asked { self.new.asked ≡ self.old.asked }
+        ensures queue_state { self.new.queue_state ≡ self.old.queue_state }
     {
         self.add(Clause::ConstrainsExcluded(candidate, aux, set))
     }
@@ -83,7 +83,7 @@ impl<D: DependencyProvider + Drop> ClauseStore<D> {
         ensures step { ⟦<D as Abstract>⟧.step self.old (ConstrainsParent parent aux set)
             (replied added result) self.new }
         ensures provider { self.new.provider ≡ self.old.provider }
-        ensures asked { self.new.asked ≡ self.old.asked }
+        ensures queue_state { self.new.queue_state ≡ self.old.queue_state }
     {
         self.add(Clause::ConstrainsParent(parent, aux, set))
     }
@@ -92,7 +92,7 @@ impl<D: DependencyProvider + Drop> ClauseStore<D> {
     pub fn lock(&mut self, locked: VariableId, other: VariableId) -> Result<Added, StoreError>
         ensures step { ⟦<D as Abstract>⟧.step self.old (Lock locked other) (replied added result) self.new }
         ensures provider { self.new.provider ≡ self.old.provider }
-        ensures asked { self.new.asked ≡ self.old.asked }
+        ensures queue_state { self.new.queue_state ≡ self.old.queue_state }
     {
         self.add(Clause::Lock(locked, other))
     }
@@ -101,7 +101,7 @@ impl<D: DependencyProvider + Drop> ClauseStore<D> {
     pub fn exclude(&mut self, variable: VariableId, reason: StringId) -> Result<Added, StoreError>
         ensures step { ⟦<D as Abstract>⟧.step self.old (Exclude variable reason) (replied added result) self.new }
         ensures provider { self.new.provider ≡ self.old.provider }
-        ensures asked { self.new.asked ≡ self.old.asked }
+        ensures queue_state { self.new.queue_state ≡ self.old.queue_state }
     {
         self.add(Clause::Excluded(variable, reason))
     }
@@ -110,7 +110,7 @@ impl<D: DependencyProvider + Drop> ClauseStore<D> {
     pub fn any_of(&mut self, selected: VariableId, other: VariableId) -> Result<Added, StoreError>
         ensures step { ⟦<D as Abstract>⟧.step self.old (AnyOf selected other) (replied added result) self.new }
         ensures provider { self.new.provider ≡ self.old.provider }
-        ensures asked { self.new.asked ≡ self.old.asked }
+        ensures queue_state { self.new.queue_state ≡ self.old.queue_state }
     {
         self.add(Clause::AnyOf(selected, other))
     }
@@ -124,7 +124,7 @@ impl<D: DependencyProvider + Drop> ClauseStore<D> {
         requires { names_clause (command_of command.now) ≡ true }
         ensures step { ⟦<D as Abstract>⟧.step self.old (command_of command.now) (reply_of result) self.new }
         ensures provider { self.new.provider ≡ self.old.provider }
-        ensures asked { self.new.asked ≡ self.old.asked }
+        ensures queue_state { self.new.queue_state ≡ self.old.queue_state }
     {
         match clause_named(command) {
             Some(clause) => clause_reply(self.add(clause)),
@@ -138,7 +138,7 @@ impl<D: DependencyProvider + Drop> ClauseStore<D> {
         requires { is_direct clause ≡ true }
         ensures step { ⟦<D as Abstract>⟧.step self.old (adding clause) (replied added result) self.new }
         ensures provider { self.new.provider ≡ self.old.provider }
-        ensures asked { self.new.asked ≡ self.old.asked }
+        ensures queue_state { self.new.queue_state ≡ self.old.queue_state }
     {
         if !knows_named(self.variables.count(), self.cache.provider(), clause) {
             return Err(StoreError::UnknownId);
@@ -155,7 +155,7 @@ impl<D: DependencyProvider + Drop> ClauseStore<D> {
     pub fn learnt(&mut self, literals: &[Literal]) -> Result<Added, StoreError>
         ensures step { ⟦<D as Abstract>⟧.step self.old (Learnt literals.now) (replied added result) self.new }
         ensures provider { self.new.provider ≡ self.old.provider }
-        ensures asked { self.new.asked ≡ self.old.asked }
+        ensures queue_state { self.new.queue_state ≡ self.old.queue_state }
     {
         if !knows_literals(literals, self.variables.count()) {
             return Err(StoreError::UnknownId);
@@ -226,8 +226,9 @@ fn first_watches<N: Copy, A: Allocator + Copy>(
     trail: &DecisionTracker<A>,
 ) -> (Option<WatchedLiterals>, bool)
     requires { is_direct clause ≡ true }
-    ensures watches { (k : Kept) → literals_watched result.0 ≡ first_watches k (val trail.now.entries) clause }
-    ensures conflict { (k : Kept) → result.1 ≡ is_conflict k (val trail.now.entries) clause }
+    ensures watches { (k : StoredLiterals) →
+        literals_watched result.0 ≡ first_watches k (val trail.now.entries) clause }
+    ensures conflict { (k : StoredLiterals) → result.1 ≡ is_conflict k (val trail.now.entries) clause }
 {
     match clause {
         Clause::Constrains(parent, forbidden, set) => {

@@ -18,7 +18,7 @@ impl<D: DependencyProvider + Drop> ClauseStore<D> {
     pub fn assign(&mut self, decision: Decision, level: u32) -> Result<Assignment, StoreError>
         ensures step { ⟦<D as Abstract>⟧.step self.old (assigning decision level) (replied assignment result) self.new }
         ensures provider { self.new.provider ≡ self.old.provider }
-        ensures asked { self.new.asked ≡ self.old.asked }
+        ensures queue_state { self.new.queue_state ≡ self.old.queue_state }
     {
         if decision.variable.to_index() >= self.variables.count()
             || decision.derived_from.to_index() >= self.clauses.len()
@@ -40,7 +40,8 @@ impl<D: DependencyProvider + Drop> ClauseStore<D> {
     pub fn undo_last(&mut self) -> Result<(Decision, u32), StoreError>
         ensures step { ⟦<D as Abstract>⟧.step self.old UndoLast (replied undone result) self.new }
         ensures provider { self.new.provider ≡ self.old.provider }
-        ensures asked { self.new.asked ≡ taken_back (⟦<D as Abstract>⟧.store self.new).trail self.old.asked }
+        ensures queue_state { self.new.queue_state ≡
+            taken_back (⟦<D as Abstract>⟧.store self.new).trail self.old.queue_state }
     {
         if self.trail.assignments().is_empty() {
             return Err(StoreError::EmptyTrail);
@@ -55,7 +56,8 @@ impl<D: DependencyProvider + Drop> ClauseStore<D> {
     pub fn undo_until(&mut self, level: u32)
         ensures step { ⟦<D as Abstract>⟧.step self.old (UndoUntil level) (Undone None) self.new }
         ensures provider { self.new.provider ≡ self.old.provider }
-        ensures asked { self.new.asked ≡ taken_back (⟦<D as Abstract>⟧.store self.new).trail self.old.asked }
+        ensures queue_state { self.new.queue_state ≡
+            taken_back (⟦<D as Abstract>⟧.store self.new).trail self.old.queue_state }
     {
         self.falsified.uncount_above(&self.trail, level);
         self.trail.undo_until(level);
@@ -66,7 +68,7 @@ impl<D: DependencyProvider + Drop> ClauseStore<D> {
     pub fn next_unpropagated(&mut self) -> Option<Decision>
         ensures step { ⟦<D as Abstract>⟧.step self.old Unpropagated (Next result) self.new }
         ensures provider { self.new.provider ≡ self.old.provider }
-        ensures asked { self.new.asked ≡ self.old.asked }
+        ensures queue_state { self.new.queue_state ≡ self.old.queue_state }
     {
         self.trail.next_unpropagated()
     }

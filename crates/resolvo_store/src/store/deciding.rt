@@ -17,17 +17,17 @@ impl<D: DependencyProvider + Drop> ClauseStore<D> {
     ghost use Rattle.resolvo_store.specs.Command.{Decide};
     ghost use Rattle.resolvo_store.specs.Answers.{next, replied};
     ghost use Rattle.resolvo_store.specs.Outcome.{falsified_clause, offers, picked};
-    ghost use Rattle.resolvo_store.specs.Walks.{AsksOnce, IsTold};
+    ghost use Rattle.resolvo_store.specs.Walks.{WalksEachOnce, HasSynced};
     ghost use Rattle.resolvo_store.specs.Deciding.{falsified_id, NoneEligible};
-    ghost use Rattle.resolvo_store.specs.Walks.{DecideAsks};
+    ghost use Rattle.resolvo_store.specs.Walks.{DecideStep};
 
     /// What a search does next: the first falsified clause, else the decision that the scan picks, else it is done.
     pub fn decide(&mut self) -> Result<Next, StoreError>
         ensures step { ⟦<D as Abstract>⟧.step self.old Decide (replied next result) self.new }
         ensures done { result ≡ Ok Done → NoneEligible (⟦<D as Abstract>⟧.store self.old) }
         ensures provider { self.new.provider ≡ self.old.provider }
-        ensures asked { DecideAsks (⟦<D as Abstract>⟧.store self.old) (replied next result)
-            self.old.asked self.new.asked }
+        ensures queue_state { DecideStep (⟦<D as Abstract>⟧.store self.old) (replied next result)
+            self.old.queue_state self.new.queue_state }
     {
         if let Some(clause) = self.first_falsified()? {
             return Ok(Next::Falsified(clause));
@@ -60,7 +60,7 @@ impl<D: DependencyProvider + Drop> ClauseStore<D> {
             × (falsified_clause (⟦<D as Abstract>⟧.store self.old) ≡ None)) }
         ensures same { ⟦<D as Abstract>⟧.store self.new ≡ ⟦<D as Abstract>⟧.store self.old }
         ensures provider { self.new.provider ≡ self.old.provider }
-        ensures asked { self.new.asked ≡ self.old.asked }
+        ensures queue_state { self.new.queue_state ≡ self.old.queue_state }
     {
         let (lists, disjunctions) = (&self.loaded, &self.disjunctions);
         match first_falsified(
@@ -95,8 +95,8 @@ impl<D: DependencyProvider + Drop> ClauseStore<D> {
         ensures memory { IfErr result (λ e. e ≡ OutOfMemory) }
 
         // No requirement is walked twice, whatever the result; and the queue has this trail, unless it was refused.
-        ensures asked { AsksOnce (⟦<D as Abstract>⟧.store self.old) self.old.asked self.new.asked }
-        ensures told { OnOk result (IsTold (⟦<D as Abstract>⟧.store self.old).trail self.new.asked) }
+        ensures queue_state { WalksEachOnce (⟦<D as Abstract>⟧.store self.old) self.old.queue_state self.new.queue_state }
+        ensures in_sync { OnOk result (HasSynced (⟦<D as Abstract>⟧.store self.old).trail self.new.queue_state) }
     {
         let floor = self.trail.take_sync_floor();
         self.queue

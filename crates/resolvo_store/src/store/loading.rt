@@ -7,7 +7,7 @@ ghost use Rattle.typed_ids.specs.declared.error.StoreError.TheVariants.{IdSpace,
 ghost use Rattle.variables.specs.Variables.{are_variables_out};
 ghost use Rattle.resolvo_store.specs.Helpers.{is_helper_known};
 ghost use Rattle.resolvo_store.specs.Outcome.{helper_origin};
-ghost use Rattle.resolvo_store.specs.Lists.{items_of, kept_for};
+ghost use Rattle.resolvo_store.specs.Lists.{items_of, lists_for};
 
 use crate::abstract_store::Abstract;
 use crate::helper_origin::{HelperOrigin, alloc_helper};
@@ -33,7 +33,7 @@ impl<D: DependencyProvider + Drop> ClauseStore<D> {
     pub fn variable(&mut self, solvable: D::SolvableId) -> Result<VariableId, StoreError>
         ensures step { ⟦<D as Abstract>⟧.step self.old (Variable solvable) (replied VariableIs result) self.new }
         ensures provider { self.new.provider ≡ self.old.provider }
-        ensures asked { self.new.asked ≡ self.old.asked }
+        ensures queue_state { self.new.queue_state ≡ self.old.queue_state }
     {
         if !self.cache.provider().knows_solvable(solvable) {
             return Err(StoreError::UnknownId);
@@ -45,7 +45,7 @@ impl<D: DependencyProvider + Drop> ClauseStore<D> {
     pub fn helper(&mut self, origin: HelperOrigin<D::NameId>) -> Result<VariableId, StoreError>
         ensures step { ⟦<D as Abstract>⟧.step self.old (Helper origin) (replied VariableIs result) self.new }
         ensures provider { self.new.provider ≡ self.old.provider }
-        ensures asked { self.new.asked ≡ self.old.asked }
+        ensures queue_state { self.new.queue_state ≡ self.old.queue_state }
     {
         if !knows_helper(self.cache.provider(), origin) {
             return Err(StoreError::UnknownId);
@@ -60,7 +60,7 @@ impl<D: DependencyProvider + Drop> ClauseStore<D> {
     ) -> Result<VariableLists<D::Alloc>, StoreError>
         ensures step { ⟦<D as Abstract>⟧.step self.old (Load requirement) (replied loaded_as result) self.new }
         ensures provider { self.new.provider ≡ self.old.provider }
-        ensures asked { self.new.asked ≡ self.old.asked }
+        ensures queue_state { self.new.queue_state ≡ self.old.queue_state }
     {
         if !knows_requirement(self.cache.provider(), requirement) {
             return Err(StoreError::UnknownId);
@@ -95,7 +95,7 @@ impl<D: DependencyProvider + Drop> ClauseStore<D> {
         ensures known { OnOk result (knows_requirement (D.universe self.new.provider) requirement ≡ true) }
         ensures refused { IfErr result (λ e. ⟦<D as Abstract>⟧.step self.old (Load requirement) (Refused e) self.new) }
         ensures provider { self.new.provider ≡ self.old.provider }
-        ensures asked { self.new.asked ≡ self.old.asked }
+        ensures queue_state { self.new.queue_state ≡ self.old.queue_state }
     {
         if !knows_requirement(self.cache.provider(), requirement) {
             return Err(StoreError::UnknownId);
@@ -122,10 +122,10 @@ impl<D: DependencyProvider + Drop> ClauseStore<D> {
         ensures err { let st = ⟦<D as Abstract>⟧.store in
             IfErr result (FailsNew (st self.old) requirement (st self.new)) }
         ensures provider { self.new.provider ≡ self.old.provider }
-        ensures asked { self.new.asked ≡ self.old.asked }
+        ensures queue_state { self.new.queue_state ≡ self.old.queue_state }
     {
         let before = self.variables.count();
-        let kept = self.keep_candidates(requirement, copied);
+        let kept = self.store_candidates(requirement, copied);
         if kept.is_err() {
             self.variables.forget_from(before);
         }
@@ -134,7 +134,7 @@ impl<D: DependencyProvider + Drop> ClauseStore<D> {
 
     /// Gives a requirement's candidates variables, and keeps their lists as the requirement's; answers a copy of them,
     /// if one is asked for. A refusal keeps no lists, and leaves the variables that were there in front.
-    fn keep_candidates(
+    fn store_candidates(
         &mut self,
         requirement: Requirement,
         copied: bool,
@@ -187,7 +187,7 @@ pub(super) fn lists<A: Allocator + Copy>(
     loaded: &RequirementMap<VariableLists<A>, A>,
     requirement: Requirement,
 ) -> Option<&VariableLists<A>>
-    ensures { option_map (λ lists. items_of lists.now) result ≡ kept_for requirement loaded.now }
+    ensures { option_map (λ lists. items_of lists.now) result ≡ lists_for requirement loaded.now }
 {
     loaded.get(requirement)
 }

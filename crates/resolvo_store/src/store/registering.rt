@@ -11,7 +11,7 @@ ghost use Rattle.typed_ids.specs.declared.error.StoreError.TheVariants.{IdSpace,
 ghost use Rattle.providers.specs.Requirement.{same_requirement};
 ghost use Rattle.providers.specs.Provider.{knows_requirement};
 ghost use Rattle.clauses.specs.Clauses.{is_conflict, condition_literals};
-ghost use Rattle.clauses.specs.Stored.{kept_in};
+ghost use Rattle.clauses.specs.Stored.{stored_in};
 ghost use Rattle.clauses.specs.declared.clause.Clause.TheVariants as Kind;
 ghost use Rattle.watch_map.specs.Watching.{AreTwoOrNone, is_literal_in};
 ghost use Rattle.resolvo_queue.specs.Queue.{IsUnchanged};
@@ -19,10 +19,10 @@ ghost use Rattle.resolvo_queue.specs.WalkCounts.{owed, walks};
 ghost use Rattle.watch_map.specs.ClauseList.{contents, literals_watched, two_or_none, is_full};
 ghost use Rattle.resolvo_store.specs.Answers.{added};
 ghost use Rattle.resolvo_store.specs.Command.{ClauseIs};
-ghost use Rattle.resolvo_store.specs.Lists.{lists_kept, disjunctions_kept, IsOneMore};
+ghost use Rattle.resolvo_store.specs.Lists.{lists_of_loaded, stored_disjunctions, IsOneMore};
 ghost use Rattle.resolvo_store.specs.Adding.{HasMore};
 ghost use Rattle.resolvo_store.specs.Known.{knows_demand};
-ghost use Rattle.resolvo_store.specs.Lists.{are_disjunctions_full, KeepsMore};
+ghost use Rattle.resolvo_store.specs.Lists.{are_disjunctions_full, StoresMore};
 ghost use Rattle.resolvo_store.specs.Registering.{StartsRight, packages_of, HasRequired, StillStandsOn};
 ghost use Rattle.resolvo_store.specs.Walks.{MayOweFirst};
 
@@ -60,7 +60,7 @@ impl<D: DependencyProvider + Drop> ClauseStore<D> {
         ensures step { ⟦<D as Abstract>⟧.step self.old (KeepDisjunction literals.now condition)
             (replied DisjunctionIs result) self.new }
         ensures provider { self.new.provider ≡ self.old.provider }
-        ensures asked { self.new.asked ≡ self.old.asked }
+        ensures queue_state { self.new.queue_state ≡ self.old.queue_state }
     {
         if !knows_parts(
             self.cache.provider(),
@@ -70,7 +70,7 @@ impl<D: DependencyProvider + Drop> ClauseStore<D> {
         ) {
             return Err(StoreError::UnknownId);
         }
-        keep_disjunction(self.alloc, &mut self.disjunctions, literals, condition)
+        store_disjunction(self.alloc, &mut self.disjunctions, literals, condition)
     }
 
     /// Adds the clause that the parent, if true, requires one of the requirement's candidates, under the condition that
@@ -84,7 +84,7 @@ impl<D: DependencyProvider + Drop> ClauseStore<D> {
         ensures step { ⟦<D as Abstract>⟧.step self.old (Requires parent requirement condition)
             (replied added result) self.new }
         ensures provider { self.new.provider ≡ self.old.provider }
-        ensures asked { OwesFirst requirement self.old.asked self.new.asked }
+        ensures queue_state { OwesFirst requirement self.old.queue_state self.new.queue_state }
     {
         let demand = Demand {
             parent,
@@ -198,14 +198,14 @@ fn required_by<N, A: Allocator + Copy>(
 
 /// Keeps one disjunction more, and answers its id. Takes memory for a copy of the literals, and where there is no room
 /// left.
-fn keep_disjunction<A: Allocator + Copy>(
+fn store_disjunction<A: Allocator + Copy>(
     alloc: A,
     disjunctions: &mut Arena<DisjunctionId, Disjunction<A>, A>,
     literals: &[Literal],
     condition: ConditionId,
 ) -> Result<DisjunctionId, StoreError>
-    ensures disjunction { IfOk result (λ d. d ≡ length (disjunctions_kept disjunctions.old)) }
-    ensures ok { OnOk result (KeepsMore literals.now condition disjunctions.old disjunctions.new) }
+    ensures disjunction { IfOk result (λ d. d ≡ length (stored_disjunctions disjunctions.old)) }
+    ensures ok { OnOk result (StoresMore literals.now condition disjunctions.old disjunctions.new) }
     ensures more { OnOk result (IsOneMore disjunctions.old disjunctions.new) }
     ensures err { OnErr result (disjunctions.new ≡ disjunctions.old) }
     ensures refused { IfErr result (IsGrowthRefusal (are_disjunctions_full disjunctions.old)) }
@@ -357,7 +357,7 @@ fn literals_of<'d, A: Allocator + Copy>(
     disjunctions: &'d Arena<DisjunctionId, Disjunction<A>, A>,
     condition: Option<DisjunctionId>,
 ) -> &'d [Literal]
-    ensures { result.now ≡ condition_literals (kept_in [] [] disjunctions.now) condition }
+    ensures { result.now ≡ condition_literals (stored_in [] [] disjunctions.now) condition }
 {
     match condition {
         Some(id) if id.to_index() < disjunctions.len() => disjunctions[id].literals.as_slice(),

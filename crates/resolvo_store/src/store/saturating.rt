@@ -13,15 +13,15 @@ impl<D: DependencyProvider + Drop> ClauseStore<D> {
     ghost use Rattle.resolvo_store.specs.Outcome.{falsified_clause};
     ghost use Rattle.resolvo_store.specs.Saturating.{HasSettled};
 
-    /// Gives values, at the level, to the variables whose values clauses force, until no clause forces one, or until a
-    /// clause is false, which is the answer: a conflict. Where it answers none, no clause is false, and none forces a
-    /// value that isn't there. A refusal of memory takes nothing back.
+    /// Unit propagation: gives values, at the level, to the variables whose values unit clauses imply, until no clause
+    /// is unit, or until a clause is false, which is the answer: a conflict. If it answers none, no clause is false or
+    /// unit. A refusal of memory takes nothing back.
     pub fn saturate(&mut self, level: u32) -> Result<Option<ClauseId>, StoreError>
         ensures step { ⟦<D as Abstract>⟧.step self.old (Saturate level) (replied conflict result) self.new }
         ensures settled { result ≡ Ok None → HasSettled (⟦<D as Abstract>⟧.store self.new) }
         ensures unfalsified { result ≡ Ok None → falsified_clause (⟦<D as Abstract>⟧.store self.new) ≡ None }
         ensures provider { self.new.provider ≡ self.old.provider }
-        ensures asked { self.new.asked ≡ self.old.asked }
+        ensures queue_state { self.new.queue_state ≡ self.old.queue_state }
     {
         if !DecisionTracker::<D::Alloc>::level_in_range(level) {
             return Err(StoreError::LevelOutOfRange);

@@ -24,7 +24,7 @@ impl<D: DependencyProvider + Drop> ClauseStore<D> {
     pub fn bump(&mut self, name: D::NameId, amount: u64) -> Result<(), StoreError>
         ensures step { ⟦<D as Abstract>⟧.step self.old (Bump name amount) (replied done result) self.new }
         ensures provider { self.new.provider ≡ self.old.provider }
-        ensures asked { WalksNothing self.old.asked self.new.asked }
+        ensures queue_state { WalksNothing self.old.queue_state self.new.queue_state }
     {
         if !self.cache.provider().knows_name(name) {
             return Err(StoreError::UnknownId);
@@ -36,7 +36,7 @@ impl<D: DependencyProvider + Drop> ClauseStore<D> {
     pub fn decay(&mut self, numerator: u64, denominator: u64) -> Result<(), StoreError>
         ensures step { ⟦<D as Abstract>⟧.step self.old (Decay numerator denominator) (replied done result) self.new }
         ensures provider { self.new.provider ≡ self.old.provider }
-        ensures asked { self.new.asked ≡ self.old.asked }
+        ensures queue_state { self.new.queue_state ≡ self.old.queue_state }
     {
         if denominator == 0 || denominator < numerator {
             return Err(StoreError::BadFraction);
@@ -50,7 +50,7 @@ impl<D: DependencyProvider + Drop> ClauseStore<D> {
     pub fn set_standard(&mut self, standard: bool)
         ensures step { ⟦<D as Abstract>⟧.step self.old (Standard standard) Done self.new }
         ensures provider { self.new.provider ≡ self.old.provider }
-        ensures asked { WalksNothing self.old.asked self.new.asked }
+        ensures queue_state { WalksNothing self.old.queue_state self.new.queue_state }
     {
         self.queue.set_standard_activity_params(standard);
     }

@@ -36,7 +36,7 @@ impl<D: DependencyProvider + Drop> ClauseStore<D> {
     ) -> Result<Tracked, StoreError>
         ensures step { ⟦<D as Abstract>⟧.step self.old (AtMostOnce name variable) (replied tracked result) self.new }
         ensures provider { self.new.provider ≡ self.old.provider }
-        ensures asked { self.new.asked ≡ self.old.asked }
+        ensures queue_state { self.new.queue_state ≡ self.old.queue_state }
     {
         if !may_track(self.cache.provider(), &self.variables, name, variable) {
             return Err(StoreError::UnknownId);

@@ -33,7 +33,7 @@ impl<D: DependencyProvider + Drop> ClauseStore<D> {
     ) -> Result<(), StoreError>
         ensures step { ⟦<D as Abstract>⟧.step self.old (Rewatch clause from to) (replied done result) self.new }
         ensures provider { self.new.provider ≡ self.old.provider }
-        ensures asked { self.new.asked ≡ self.old.asked }
+        ensures queue_state { self.new.queue_state ≡ self.old.queue_state }
     {
         if !knows_watches(&self.clauses, &self.variables, clause, from, to) {
             return Err(StoreError::UnknownId);

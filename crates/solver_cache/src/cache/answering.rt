@@ -16,7 +16,7 @@ impl<D: DependencyProvider + Drop> SolverCache<D> {
     ghost use Rattle.providers.specs.Provider.{matching, non_matching, sets_of, knows_requirement};
     ghost use Rattle.providers.specs.Requirement.{same_requirement};
     ghost use Rattle.providers.specs.declared.requirement.Requirement.TheVariants.{Single};
-    ghost use Rattle.solver_cache.specs.Cache.{IsAnswer, is_asked, is_fetched, is_kept, same_set};
+    ghost use Rattle.solver_cache.specs.Cache.{IsAnswer, is_queried, is_fetched, is_cached, same_set};
     ghost use Rattle.solver_cache.specs.Cache.{sorted_of_set, sorted_of};
     ghost use Rattle.solver_cache.specs.Refused.{MayRefuseName, MayRefuseSet, MayRefuseSets, MayRefuseNeeds};
 
@@ -28,7 +28,7 @@ impl<D: DependencyProvider + Drop> SolverCache<D> {
     ) -> Result<&Candidates<D::SolvableId, D::Alloc>, CacheError<D::Cancel>>
         ensures answer { IfOk result (λ answer. IsAnswer (⟦<D as ProviderFunctions>⟧.functions self.old.provider)
             (D.may_answer self.old.provider) name answer.now) }
-        ensures kept { is_asked (⟦<D as ProviderFunctions>⟧.functions self.old.provider) self.old name ≡
+        ensures cached { is_queried (⟦<D as ProviderFunctions>⟧.functions self.old.provider) self.old name ≡
             true → IsOk result }
         ensures refused { IfErr result
             (MayRefuseName (⟦<D as ProviderFunctions>⟧.functions self.old.provider) self.old name) }
@@ -45,7 +45,7 @@ impl<D: DependencyProvider + Drop> SolverCache<D> {
         requires { (D.universe self.old.provider).knows_set set ≡ true }
         ensures list { IfOk result (λ list. list.now ≡
             matching (D.universe self.old.provider) (D.answers self.old.provider) set) }
-        ensures kept { is_kept (same_set set) self.old.matching ≡ true → IsOk result }
+        ensures cached { is_cached (same_set set) self.old.matching ≡ true → IsOk result }
         ensures refused { IfErr result
             (MayRefuseSet (⟦<D as ProviderFunctions>⟧.functions self.old.provider) self.old set) }
     {
@@ -61,7 +61,7 @@ impl<D: DependencyProvider + Drop> SolverCache<D> {
         requires { (D.universe self.old.provider).knows_set set ≡ true }
         ensures list { IfOk result (λ list. list.now ≡
             non_matching (D.universe self.old.provider) (D.answers self.old.provider) set) }
-        ensures kept { is_kept (same_set set) self.old.non_matching ≡ true → IsOk result }
+        ensures cached { is_cached (same_set set) self.old.non_matching ≡ true → IsOk result }
         ensures refused { IfErr result
             (MayRefuseSet (⟦<D as ProviderFunctions>⟧.functions self.old.provider) self.old set) }
     {
@@ -78,7 +78,7 @@ impl<D: DependencyProvider + Drop> SolverCache<D> {
         requires { knows_requirement (D.universe self.old.provider) requirement ≡ true }
         ensures list { IfOk result (λ list. list.now ≡
             sorted_of (⟦<D as ProviderFunctions>⟧.functions self.old.provider) requirement) }
-        ensures kept { is_kept (same_requirement requirement) self.old.sorted ≡ true → IsOk result }
+        ensures cached { is_cached (same_requirement requirement) self.old.sorted ≡ true → IsOk result }
         ensures refused { let p = ⟦<D as ProviderFunctions>⟧.functions self.old.provider in
             IfErr result (MayRefuseSets p self.old (sets_of p.universe requirement)) }
     {
@@ -95,7 +95,7 @@ impl<D: DependencyProvider + Drop> SolverCache<D> {
         requires { (D.universe self.old.provider).knows_set set ≡ true }
         ensures list { IfOk result (λ list. list.now ≡
             sorted_of_set (⟦<D as ProviderFunctions>⟧.functions self.old.provider) set) }
-        ensures kept { is_kept (same_requirement (Single set)) self.old.sorted ≡ true → IsOk result }
+        ensures cached { is_cached (same_requirement (Single set)) self.old.sorted ≡ true → IsOk result }
         ensures refused { IfErr result
             (MayRefuseSet (⟦<D as ProviderFunctions>⟧.functions self.old.provider) self.old set) }
     {
@@ -110,7 +110,7 @@ impl<D: DependencyProvider + Drop> SolverCache<D> {
     ) -> Result<&Dependencies<D::Alloc>, CacheError<D::Cancel>>
         requires { (D.universe self.old.provider).knows_solvable solvable ≡ true }
         ensures answer { IfOk result (λ answer. needs_of answer.now ≡ (D.answers self.old.provider).needs solvable) }
-        ensures kept { is_fetched (⟦<D as ProviderFunctions>⟧.functions self.old.provider) self.old solvable ≡
+        ensures cached { is_fetched (⟦<D as ProviderFunctions>⟧.functions self.old.provider) self.old solvable ≡
             true → IsOk result }
         ensures refused { IfErr result
             (MayRefuseNeeds (⟦<D as ProviderFunctions>⟧.functions self.old.provider) self.old solvable) }

@@ -11,8 +11,8 @@ use typed_ids::VersionSetId;
 
 impl<D: DependencyProvider + Drop> SolverCache<D> {
     ghost use Rattle.providers.specs.Provider.{filtered};
-    ghost use Rattle.solver_cache.specs.Cache.{is_kept, same_set};
-    ghost use Rattle.solver_cache.specs.Outcomes.{AnswersMatching, AnswersNonMatching, RefusesFiltered, AsksPackage};
+    ghost use Rattle.solver_cache.specs.Cache.{is_cached, same_set};
+    ghost use Rattle.solver_cache.specs.Outcomes.{AnswersMatching, AnswersNonMatching, RefusesFiltered, QueriesPackage};
 
     /// The candidates of its package that a version set holds, in the provider's order of listing.
     pub fn cache_matching_candidates(
@@ -23,7 +23,7 @@ impl<D: DependencyProvider + Drop> SolverCache<D> {
         ensures answered { IfOk result (λ id. AnswersMatching
             (⟦<D as ProviderFunctions>⟧.functions self.old.provider) (D.may_answer self.old.provider)
             D.SolvableId.Set.has self.old set id self.new) }
-        ensures kept { is_kept (same_set set) self.old.matching ≡ true → IsOk result }
+        ensures cached { is_cached (same_set set) self.old.matching ≡ true → IsOk result }
         ensures refused { IfErr result (λ e. RefusesFiltered
             (⟦<D as ProviderFunctions>⟧.functions self.old.provider) (D.may_answer self.old.provider)
             D.SolvableId.Set.has self.old set e self.new) }
@@ -53,7 +53,7 @@ impl<D: DependencyProvider + Drop> SolverCache<D> {
         ensures answered { IfOk result (λ id. AnswersNonMatching
             (⟦<D as ProviderFunctions>⟧.functions self.old.provider) (D.may_answer self.old.provider)
             D.SolvableId.Set.has self.old set id self.new) }
-        ensures kept { is_kept (same_set set) self.old.non_matching ≡ true → IsOk result }
+        ensures cached { is_cached (same_set set) self.old.non_matching ≡ true → IsOk result }
         ensures refused { IfErr result (λ e. RefusesFiltered
             (⟦<D as ProviderFunctions>⟧.functions self.old.provider) (D.may_answer self.old.provider)
             D.SolvableId.Set.has self.old set e self.new) }
@@ -81,7 +81,7 @@ impl<D: DependencyProvider + Drop> SolverCache<D> {
         inverse: bool,
     ) -> Result<Vec<D::SolvableId, D::Alloc>, CacheError<D::Cancel>>
         requires { (D.universe self.old.provider).knows_set set ≡ true }
-        ensures package { OnOk result (AsksPackage
+        ensures package { OnOk result (QueriesPackage
             (⟦<D as ProviderFunctions>⟧.functions self.old.provider) (D.may_answer self.old.provider)
             D.SolvableId.Set.has self.old set self.new) }
         ensures list { IfOk result (λ list. list.items ≡ filtered ((D.answers self.old.provider).matches set) inverse

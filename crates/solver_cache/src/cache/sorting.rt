@@ -16,7 +16,7 @@ impl<D: DependencyProvider + Drop> SolverCache<D> {
     ghost use Rattle.providers.specs.Provider.{matching, sets_of, knows_requirement};
     ghost use Rattle.providers.specs.Requirement.{same_requirement};
     ghost use Rattle.providers.specs.declared.requirement.Requirement.TheVariants.{Single, Union};
-    ghost use Rattle.solver_cache.specs.Cache.{is_set_asked, is_kept, list_at, listed, sorted_of};
+    ghost use Rattle.solver_cache.specs.Cache.{is_set_queried, is_cached, list_at, listed, sorted_of};
     ghost use Rattle.solver_cache.specs.Outcomes.{AnswersSorted, AnswersRequirement, AnswersLists, AnswersSets};
     ghost use Rattle.solver_cache.specs.Outcomes.{SortsSets, RefusesSorted, RefusesSets};
 
@@ -30,7 +30,7 @@ impl<D: DependencyProvider + Drop> SolverCache<D> {
         ensures answered { IfOk result (λ id. AnswersRequirement
             (⟦<D as ProviderFunctions>⟧.functions self.old.provider) (D.may_answer self.old.provider)
             D.SolvableId.Set.has self.old requirement id self.new) }
-        ensures kept { is_kept (same_requirement requirement) self.old.sorted ≡ true → IsOk result }
+        ensures cached { is_cached (same_requirement requirement) self.old.sorted ≡ true → IsOk result }
         ensures refused { IfErr result (λ e. RefusesSets
             (⟦<D as ProviderFunctions>⟧.functions self.old.provider) (D.may_answer self.old.provider)
             D.SolvableId.Set.has self.old
@@ -52,7 +52,7 @@ impl<D: DependencyProvider + Drop> SolverCache<D> {
         ensures answered { IfOk result (λ id. AnswersSorted
             (⟦<D as ProviderFunctions>⟧.functions self.old.provider) (D.may_answer self.old.provider)
             D.SolvableId.Set.has self.old set id self.new) }
-        ensures kept { is_kept (same_requirement (Single set)) self.old.sorted ≡ true → IsOk result }
+        ensures cached { is_cached (same_requirement (Single set)) self.old.sorted ≡ true → IsOk result }
         ensures refused { IfErr result (λ e. RefusesSorted
             (⟦<D as ProviderFunctions>⟧.functions self.old.provider) (D.may_answer self.old.provider)
             D.SolvableId.Set.has self.old set e self.new) }
@@ -86,7 +86,7 @@ impl<D: DependencyProvider + Drop> SolverCache<D> {
         ensures answered { IfOk result (λ id. AnswersRequirement
             (⟦<D as ProviderFunctions>⟧.functions self.old.provider) (D.may_answer self.old.provider)
             D.SolvableId.Set.has self.old (Union union) id self.new) }
-        ensures kept { is_kept (same_requirement (Union union)) self.old.sorted ≡ true → IsOk result }
+        ensures cached { is_cached (same_requirement (Union union)) self.old.sorted ≡ true → IsOk result }
         ensures refused { IfErr result (λ e. RefusesSets
             (⟦<D as ProviderFunctions>⟧.functions self.old.provider) (D.may_answer self.old.provider)
             D.SolvableId.Set.has self.old
@@ -202,7 +202,7 @@ impl<D: DependencyProvider + Drop> SolverCache<D> {
     /// The favored candidate of a version set's package, which was asked for.
     fn favored(&self, set: VersionSetId) -> Option<D::SolvableId>
         requires known { (D.universe self.now.provider).knows_set set ≡ true }
-        requires asked { is_set_asked (⟦<D as ProviderFunctions>⟧.functions self.now.provider) self.now set ≡ true }
+        requires queried { is_set_queried (⟦<D as ProviderFunctions>⟧.functions self.now.provider) self.now set ≡ true }
         ensures { result ≡ (D.answers self.now.provider).favored ((D.universe self.now.provider).set_name set) }
     {
         let name = self.provider.version_set_name(set);

@@ -2,13 +2,13 @@
 ghost use Rattle.std.specs.Prelude.{ℕ, ◌≤◌, length, take, drop};
 ghost use Rattle.decisions.specs.Trail.{val, level_of};
 ghost use Rattle.watch_map.specs.WatchLists.{watched_by};
-ghost use Rattle.watch_map.specs.WatchInvariant.{AreMet};
+ghost use Rattle.watch_map.specs.WatchInvariant.{AreWatchesSatisfied};
 ghost use Rattle.watch_map.specs.Visits.{literals_at};
 ghost use Rattle.watch_map.specs.Watching.{AreUnwatched};
 ghost use Rattle.watch_map.specs.Marks.{IsMark, IsBehind};
 
 use crate::marks::Mark;
-use crate::saturation::given::Given;
+use crate::saturation::input::SaturationInput;
 use crate::saturation::unwatched::{bound_of_true, count_before};
 use crate::watched_literals::WatchedLiterals;
 use decisions::DecisionTracker;
@@ -17,25 +17,25 @@ use std::alloc::Allocator;
 /// The mark of the trail's end, where all that is false is met. The mark from which the saturation went on tells the
 /// beginning: it reads what came behind alone. The entries from the place `before` on are what the saturation added.
 pub(crate) fn mark_at_end<N: Copy, A: Allocator + Copy>(
-    given: &Given<N, A>,
+    input: &SaturationInput<N, A>,
     watches: &[Option<WatchedLiterals>],
     trail: &DecisionTracker<A>,
     from: &Mark,
     before: usize,
 ) -> Mark
-    requires unwatched { AreUnwatched (watched_by watches.now) (length given.now.clauses.now) given.now.unwatched.now }
-    requires from { IsMark (literals_at given.now) (watched_by watches.now) trail.now.entries from.now }
-    requires met { AreMet (val trail.now.entries) (val trail.now.entries) (watched_by watches.now) }
+    requires unwatched { AreUnwatched (watched_by watches.now) (length input.now.clauses.now) input.now.unwatched.now }
+    requires from { IsMark (literals_at input.now) (watched_by watches.now) trail.now.entries from.now }
+    requires satisfied { AreWatchesSatisfied (val trail.now.entries) (val trail.now.entries) (watched_by watches.now) }
     requires before { (from.now.place ≤ before) × (before ≤ length trail.now.entries) }
-    requires added { (x : ℕ) → level_of (drop before trail.now.entries) x ≤ given.now.level }
-    ensures mark { IsMark (literals_at given.now) (watched_by watches.now) trail.now.entries result }
+    requires added { (x : ℕ) → level_of (drop before trail.now.entries) x ≤ input.now.level }
+    ensures mark { IsMark (literals_at input.now) (watched_by watches.now) trail.now.entries result }
     ensures behind { IsBehind from.now result }
 {
-    let first = count_before(given, from.clauses);
+    let first = count_before(input, from.clauses);
     Mark {
         place: trail.assignments().len(),
-        clauses: bound_of_true(given, trail.map(), first),
-        level: highest_level(trail, from, before, given.level),
+        clauses: bound_of_true(input, trail.map(), first),
+        level: highest_level(trail, from, before, input.level),
     }
 }
 

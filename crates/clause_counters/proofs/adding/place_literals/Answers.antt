@@ -13,8 +13,8 @@ use Rattle.clause_counters.specs.declared.links.Link.{Link}
 use Rattle.clause_counters.specs.declared.groups.Standing.{Standing}
 use Rattle.clause_counters.specs.Links.{link_at, listed, count}
 use Rattle.clause_counters.specs.Counted.{no_standing, standing_at, all_places, open_places}
-use Rattle.clause_counters.specs.Shown.{has_index, once}
-use Rattle.clause_counters.specs.Adding.{IsStanding, AreFlagged, flag_told, is_newest, with_place_once, placed_once}
+use Rattle.clause_counters.specs.GroupedClauses.{has_index, once}
+use Rattle.clause_counters.specs.Adding.{IsStanding, AreFlagged, initial_flag, is_newest, with_place_once, placed_once}
 use Rattle.clause_counters.proofs.FlagLaws.{of_literal}
 use Rattle.clause_counters.proofs.CountLaws.{no_term, first_counted}
 use Rattle.clause_counters.proofs.PoolLaws.{merged, merged_le, merged_twice, byte_neither, neither_le, moved}
@@ -81,19 +81,19 @@ loop-literal-preserved g c =
     let test = c.loop-literal-test.true in
     let lit = c.literal-item.result in
     let i = c.to_index.result in
-    let told = c.is_false-told.result in
+    let new_flag = c.is_false-new_flag.result in
     let group = c.args.group in
     let at : lit ≡ get_or list k (Pos 0) = get_or_read list k lit test c.literal-item.is (Pos 0) in
     let index : i ≡ literal_index (get_or list k (Pos 0)) = c.to_index.ensures.value ∙ ap literal_index at in
     let reached = c.requires.reached k (Pos 0) test in
     let in' : i < length ls = (let e = inv.as_many in let ok = c.loop-literal.literals.ok.0 in
     omega (arith, index, reached, e, ok)) in
-    let flag = flag_told (standing_at ls i) told in
+    let flag = initial_flag (standing_at ls i) new_flag in
     let np = c.place-is_left.ensures.places in
     let nl = c.place-is_left.ensures.literals in
     let has_one = is_newest ps (standing_at ls i) group in
     let wp = with_place_once ps ls i group in
-    let wl = placed_once ps ls i group told in
+    let wl = placed_once ps ls i group new_flag in
     let ps' = c.place-is_left.new.places.items in
     let ls' = c.place-is_left.new.literals.items in
     let step : c.from-left.result ≡ cond has_one 0 (cond flag 0 1) = c.from-left.ensures
@@ -101,7 +101,7 @@ loop-literal-preserved g c =
     let any = λ (j : ℕ). list_any_more (has_index j) list k (Pos 0) test
     ∙ ap (λ n. list_any (has_index j) (take k list) || eqb n j) (sym index) in
     record {
-      standing = moved IsStanding wp ps' wl ls' np nl (standing_once ps ls inv.standing i in' group told);
+      standing = moved IsStanding wp ps' wl ls' np nl (standing_once ps ls inv.standing i in' group new_flag);
       lists = λ j h. moved (λ x y. count h (listed x (standing_at y j).groups) ≡
           count h (listed c.args.places.now.items (standing_at c.args.literals.now.items j).groups)
           + cond (eqb group h) (once j (take (k + 1) list)) 0) wp ps' wl ls' np nl
@@ -109,34 +109,34 @@ loop-literal-preserved g c =
           (count h (listed ps (standing_at ls j).groups))
           (count h (listed c.args.places.now.items (standing_at c.args.literals.now.items j).groups))
           (once j (take k list)) (once j (take (k + 1) list)) (cond has_one 0 1)
-          (lists_once ps ls inv.standing i in' group told j h) (inv.lists j h)
+          (lists_once ps ls inv.standing i in' group new_flag j h) (inv.lists j h)
           (ap (λ b. cond b 1 0) (any j)
           ∙ once_more (list_any (has_index j) (take k list)) has_one i j
           (λ e. inv.newest i ∙ ap (λ n. list_any (has_index n) (take k list)) e)));
       newest = λ j. moved (λ x y. is_newest x (standing_at y j) group ≡ list_any (has_index j) (take (k + 1) list))
-          wp ps' wl ls' np nl (newest_once ps ls inv.standing i in' group told j
+          wp ps' wl ls' np nl (newest_once ps ls inv.standing i in' group new_flag j
           ∙ (ap (λ b. b || eqb i j) (inv.newest j) ∙ sym (any j)));
       all = λ h. moved (λ x y. all_places x y h ≤ all_places c.args.places.now.items c.args.literals.now.items h +
           cond (eqb group h) (k + 1) 0)
           wp ps' wl ls' np nl
           (merged_le (eqb group h) (all_places wp wl h) (all_places ps ls h)
           (all_places c.args.places.now.items c.args.literals.now.items h) k (k + 1) 1
-          (all_once ps ls inv.standing i in' group told h) (inv.all h) refl);
+          (all_once ps ls inv.standing i in' group new_flag h) (inv.all h) refl);
       left = λ h. moved (λ x y. open_places x y h ≡ open_places c.args.places.now.items c.args.literals.now.items h
           + cond (eqb group h) (c.loop-literal.left + c.from-left.result) 0) wp ps' wl ls' np nl
           (merged (eqb group h) (open_places wp wl h) (open_places ps ls h)
           (open_places c.args.places.now.items c.args.literals.now.items h)
           c.loop-literal.left (c.loop-literal.left + c.from-left.result) (cond has_one 0 (cond flag 0 1))
-          (open_once ps ls inv.standing i in' group told h) (inv.left h) (ap (λ n. c.loop-literal.left + n) step));
+          (open_once ps ls inv.standing i in' group new_flag h) (inv.left h) (ap (λ n. c.loop-literal.left + n) step));
       flags = λ is_false flagged says. moved (λ x y. AreFlagged x y is_false) wp ps' wl ls' np nl
-          (flags_once ps ls inv.standing i in' group told is_false (inv.flags is_false flagged says)
+          (flags_once ps ls inv.standing i in' group new_flag is_false (inv.flags is_false flagged says)
           (ap is_false index ∙ (says k (Pos 0) test ∙ (ap (is_false_literal (values_in c.args.values.now)) (sym at)
-          ∙ sym c.is_false-told.ensures))));
+          ∙ sym c.is_false-new_flag.ensures))));
       counted = (let so_far = inv.counted in let one = neither_le has_one flag in omega (arith, so_far, step, one));
       as_many = c.place-is_left.new.literals.ok.0 ∙ (ap length nl
-          ∙ (literals_once ps ls inv.standing i in' group told ∙ (sym c.loop-literal.literals.ok.0 ∙ inv.as_many)));
+          ∙ (literals_once ps ls inv.standing i in' group new_flag ∙ (sym c.loop-literal.literals.ok.0 ∙ inv.as_many)));
       len = (let n = c.place-is_left.new.places.ok.0 in let m = ap length np in
-          let more = places_once ps ls inv.standing i in' group told in
+          let more = places_once ps ls inv.standing i in' group new_flag in
           let ok = c.loop-literal.places.ok.0 in let so_far = inv.len in omega (arith, n, m, more, ok, so_far));
       room = c.place-is_left.ensures.capacity ∙ inv.room;
     }

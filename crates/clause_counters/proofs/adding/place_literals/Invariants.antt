@@ -6,7 +6,7 @@ use Rattle.decisions.specs.Literals.{is_false_literal}
 use Rattle.decisions.specs.LiteralIndex.{literal_index}
 use Rattle.clause_counters.specs.Links.{listed, count}
 use Rattle.clause_counters.specs.Counted.{standing_at, all_places, open_places}
-use Rattle.clause_counters.specs.Shown.{has_index, once}
+use Rattle.clause_counters.specs.GroupedClauses.{has_index, once}
 use Rattle.clause_counters.specs.Adding.{IsStanding, AreFlagged, is_newest}
 use Rattle.clause_counters.proofs.adding.place_literals.Given as goal
 

@@ -3,4 +3,4 @@ use Rattle.clauses.proofs.literal_walk.find_among.Goals as goal
 
 pub returns-clause-tested : goal.returns-clause-tested
 returns-clause-tested g c = λ passes says.
-    find-first (goal.F-post g c.args.test) c.args.literals.now c.find_kept.result c.find_kept.ensures passes says
+    find-first (goal.F-post g c.args.test) c.args.literals.now c.find_stored.result c.find_stored.ensures passes says

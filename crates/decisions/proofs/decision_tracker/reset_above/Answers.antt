@@ -1,5 +1,5 @@
 use Rattle.std.proofs.Common.{◌-◌, ◌∙◌, take, slice_index_or, arith}
-use Rattle.decisions.proofs.TrackerLemmas.{IsTracked-pop, kept_until-pop, kept_until-entries_of, take-last}
+use Rattle.decisions.proofs.TrackerLemmas.{IsTracked-pop, entries_until-pop, entries_until-entries_of, take-last}
 use Rattle.decisions.proofs.decision_tracker.reset_above.Goals as goal
 
 pub loop-left-preserved : goal.loop-left-preserved
@@ -16,7 +16,7 @@ loop-left-preserved g c =
     record {
       within = omega (arith, inv.within);
       tracked = IsTracked-pop old new (take (left - 1) ds) newest tracked reset.1;
-      kept = kept_until-pop old new (take (left - 1) ds) newest tracked reset.1 c.args.level reset.0 ∙ (rw is at inv.kept);
+      kept = entries_until-pop old new (take (left - 1) ds) newest tracked reset.1 c.args.level reset.0 ∙ (rw is at inv.kept);
     }
 
 pub returns-then-not-reset_above-clause-kept : goal.returns-then-not-reset_above-clause-kept
@@ -27,7 +27,7 @@ returns-then-not-reset_above-clause-kept g c =
     let inv = c.loop-left.invariant in
     let is = take-last ds left c.index-stack-left.result c.loop-left-test.true inv.within in
     let stays = c.reset_above.ensures.left c.if-not-reset_above.true in
-    let all = kept_until-entries_of c.loop-left.map (take (left - 1) ds) newest c.args.level stays.0 in
+    let all = entries_until-entries_of c.loop-left.map (take (left - 1) ds) newest c.args.level stays.0 in
     rw (stays.1, is) (all.0 ∙ (rw is at inv.kept))
 
 pub returns-then-not-reset_above-clause-within : goal.returns-then-not-reset_above-clause-within
@@ -38,4 +38,4 @@ returns-then-not-reset_above-clause-within g c =
     let inv = c.loop-left.invariant in
     let is = take-last ds left c.index-stack-left.result c.loop-left-test.true inv.within in
     let stays = c.reset_above.ensures.left c.if-not-reset_above.true in
-    rw (stays.1, is) (kept_until-entries_of c.loop-left.map (take (left - 1) ds) newest c.args.level stays.0).1
+    rw (stays.1, is) (entries_until-entries_of c.loop-left.map (take (left - 1) ds) newest c.args.level stays.0).1

@@ -1,5 +1,5 @@
 use Rattle.std.proofs.Common.{◌≡◌, true}
-use Rattle.resolvo_queue.proofs.Words.{AskedOn, grounds, is_in, offers_of, offers_on, OnlyWalks, rest_picked}
+use Rattle.resolvo_queue.proofs.Words.{CanDecideOn, grounds, is_in, offers_of, offers_on, OnlyWalks, rest_picked}
 use Rattle.resolvo_queue.proofs.Picks.Decisions.{clauses_behind}
 use Rattle.resolvo_queue.proofs.deciding.best_from.Given as goal
 
@@ -11,7 +11,7 @@ invariant-loop-first g l =
       picked : rest_picked l.fn.tracked.index.clauses.items offers l.fn.first.offer l.fn.first.position
           ≡ rest_picked l.fn.tracked.index.clauses.items offers l.best.offer l.cursor;
       of : is_in l.group l.cursor ≡ true;
-      asked : AskedOn on l.tracked;
+      decidable : CanDecideOn on l.tracked;
       walks : OnlyWalks l.fn.tracked l.tracked l.fn.reader l.reader;
     }
 

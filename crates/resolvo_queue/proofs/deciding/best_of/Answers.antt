@@ -4,8 +4,8 @@ use Rattle.resolvo_queue.proofs.Picks.Steps.{along_walks, asked_by, only_walks_a
 use Rattle.resolvo_queue.proofs.Picks.Ready.{match_some}
 use Rattle.resolvo_queue.proofs.deciding.best_of.Goals as goal
 
-pub best_from-requires-clause-asked : goal.best_from-requires-clause-asked
-best_from-requires-clause-asked g c = asked_by (sym c.first_eligible.ensures.walks.lists) c.first_eligible.ensures.asked
+pub best_from-requires-clause-decidable : goal.best_from-requires-clause-decidable
+best_from-requires-clause-decidable g c = asked_by (sym c.first_eligible.ensures.walks.lists) c.first_eligible.ensures.decidable
 
 pub returns-in-Some-clause-best : goal.returns-in-Some-clause-best
 returns-in-Some-clause-best g c =
@@ -17,8 +17,8 @@ returns-in-Some-clause-best g c =
     ∙ sym (match_some c.in_ok-first.field-0 c.in-Some.first _ _ c.in-Some.is c.in_ok-first.ensures.picked))
     c.best_from.ensures.best
 
-pub returns-in-Some-clause-asked : goal.returns-in-Some-clause-asked
-returns-in-Some-clause-asked g c = asked_by c.first_eligible.ensures.walks.lists c.best_from.ensures.asked
+pub returns-in-Some-clause-decidable : goal.returns-in-Some-clause-decidable
+returns-in-Some-clause-decidable g c = asked_by c.first_eligible.ensures.walks.lists c.best_from.ensures.decidable
 
 pub returns-in-Some-clause-walks : goal.returns-in-Some-clause-walks
 returns-in-Some-clause-walks g c = only_walks_along c.first_eligible.ensures.walks c.best_from.ensures.walks

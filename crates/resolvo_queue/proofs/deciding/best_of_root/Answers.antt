@@ -9,8 +9,8 @@ pub returns-in-Some-clause-best : goal.returns-in-Some-clause-best
 returns-in-Some-clause-best g c =
     let on = grounds g.I.Interner.universe g.I.NameId.Scores.IdMap.value_at c.args.question.now c.args.reader.now in
     subst (λ best. IfOk c.best_of.result (λ o. o ≡ best))
-    (best_of_group c.args.tracked.now.index.clauses.items c.requires.asked.located c.args.tracked.now.index.by_parent
-    c.requires.asked.first (offers_on on) (offers_own on.val (clause_literals on.refs) (rows_in on.refs) on.score)
+    (best_of_group c.args.tracked.now.index.clauses.items c.requires.decidable.located c.args.tracked.now.index.by_parent
+    c.requires.decidable.first (offers_on on) (offers_own on.val (clause_literals on.refs) (rows_in on.refs) on.score)
     c.group_of.result c.in-Some.of_root (subst (λ root. c.group_of.result ≡ option_map OfParent
     (slice_get (list_at c.args.tracked.now.index.by_parent root) 0)) c.root.ensures c.group_of.ensures)
     c.in-Some.is) c.best_of.ensures.best
@@ -18,8 +18,8 @@ returns-in-Some-clause-best g c =
 pub returns-in-None-clause-best : goal.returns-in-None-clause-best
 returns-in-None-clause-best g c =
     let on = grounds g.I.Interner.universe g.I.NameId.Scores.IdMap.value_at c.args.question.now c.args.reader.now in
-    sym (best_of_none c.args.tracked.now.index.clauses.items c.requires.asked.located
-    c.args.tracked.now.index.by_parent c.requires.asked.first (offers_on on)
+    sym (best_of_none c.args.tracked.now.index.clauses.items c.requires.decidable.located
+    c.args.tracked.now.index.by_parent c.requires.decidable.first (offers_on on)
     (offers_own on.val (clause_literals on.refs) (rows_in on.refs) on.score)
     c.group_of.result (subst (λ root. c.group_of.result ≡ option_map OfParent
     (slice_get (list_at c.args.tracked.now.index.by_parent root) 0)) c.root.ensures c.group_of.ensures) c.in-None.is)

@@ -8,20 +8,20 @@ use Rattle.resolvo_queue.proofs.Picks.Ready.{match_none, offer_found}
 use Rattle.resolvo_queue.proofs.deciding.first_eligible.Goals as goal
 
 pub inspect_at-requires-clause-of : goal.inspect_at-requires-clause-of
-inspect_at-requires-clause-of g c = c.loop-position.invariant.asked.ready.all_of c.in-Some.position
+inspect_at-requires-clause-of g c = c.loop-position.invariant.decidable.ready.all_of c.in-Some.position
     (of_both c.args.group c.loop-position.tracked.queued.all c.in-Some.position c.in-Some.ensures.none).1
 
-pub inspect_at-requires-clause-asked : goal.inspect_at-requires-clause-asked
-inspect_at-requires-clause-asked g c =
-    asked_by (sym c.loop-position.invariant.walks.lists) c.loop-position.invariant.asked
+pub inspect_at-requires-clause-decidable : goal.inspect_at-requires-clause-decidable
+inspect_at-requires-clause-decidable g c =
+    asked_by (sym c.loop-position.invariant.walks.lists) c.loop-position.invariant.decidable
 
 pub returns-in-Some-2-clause-picked : goal.returns-in-Some-2-clause-picked
 returns-in-Some-2-clause-picked g c =
     let on = grounds g.I.Interner.universe g.I.NameId.Scores.IdMap.value_at c.args.question.now c.args.reader.now in
     first_found c.args.tracked.now.index.clauses.items (clause_literals on.refs)
-    (rows_in on.refs) on.val on.score c.requires.asked.located c.args.group
+    (rows_in on.refs) on.val on.score c.requires.decidable.located c.args.group
     c.loop-position.tracked.requirements c.loop-position.tracked.queued
-    (ready_by c.loop-position.invariant.walks.index c.loop-position.invariant.asked)
+    (ready_by c.loop-position.invariant.walks.index c.loop-position.invariant.decidable)
     c.in-Some.position c.in-Some.ensures.none c.in-Some.ensures.least c.candidate_at.result
     (λ d s. let looked : slice_get c.loop-position.tracked.index.clauses.items c.in-Some.position.number ≡ Some d =
     subst (λ ix. slice_get ix.clauses.items c.in-Some.position.number ≡ Some d)
@@ -36,7 +36,7 @@ returns-in-Some-2-clause-picked g c =
 pub candidate_at-requires-clause-of : goal.candidate_at-requires-clause-of
 candidate_at-requires-clause-of g c =
     subst (λ ix. IsOfClause ix.clauses.items c.in-Some.position) (sym c.inspect_at.ensures.walks.index)
-    (c.loop-position.invariant.asked.ready.all_of c.in-Some.position
+    (c.loop-position.invariant.decidable.ready.all_of c.in-Some.position
     (of_both c.args.group c.loop-position.tracked.queued.all c.in-Some.position c.in-Some.ensures.none).1)
 
 pub returns-in-Some-2-clause-of : goal.returns-in-Some-2-clause-of
@@ -47,27 +47,27 @@ pub returns-clause-picked : goal.returns-clause-picked
 returns-clause-picked g c =
     let on = grounds g.I.Interner.universe g.I.NameId.Scores.IdMap.value_at c.args.question.now c.args.reader.now in
     none_found c.args.tracked.now.index.clauses.items (clause_literals on.refs) (rows_in on.refs) on.val on.score
-    c.requires.asked.located c.args.group c.loop-position.tracked.requirements c.loop-position.tracked.queued
-    (ready_by c.loop-position.invariant.walks.index c.loop-position.invariant.asked)
+    c.requires.decidable.located c.args.group c.loop-position.tracked.requirements c.loop-position.tracked.queued
+    (ready_by c.loop-position.invariant.walks.index c.loop-position.invariant.decidable)
     (match_none c.first_of.result _ _ c.in_default.is c.first_of.ensures.none)
 
 pub loop-position-preserved : goal.loop-position-preserved
 loop-position-preserved g c = record {
-  asked = asked_by c.loop-position.invariant.walks.lists c.inspect_at.ensures.asked;
+  decidable = asked_by c.loop-position.invariant.walks.lists c.inspect_at.ensures.decidable;
   walks = only_walks_along c.loop-position.invariant.walks c.inspect_at.ensures.walks;
 }
 
 pub loop-position-init : goal.loop-position-init
-loop-position-init g c = record { asked = c.requires.asked; walks = only_walks_none }
+loop-position-init g c = record { decidable = c.requires.decidable; walks = only_walks_none }
 
-pub returns-in-Some-2-clause-asked : goal.returns-in-Some-2-clause-asked
-returns-in-Some-2-clause-asked g c = asked_by c.loop-position.invariant.walks.lists c.inspect_at.ensures.asked
+pub returns-in-Some-2-clause-decidable : goal.returns-in-Some-2-clause-decidable
+returns-in-Some-2-clause-decidable g c = asked_by c.loop-position.invariant.walks.lists c.inspect_at.ensures.decidable
 
 pub returns-in-Some-2-clause-walks : goal.returns-in-Some-2-clause-walks
 returns-in-Some-2-clause-walks g c = only_walks_along c.loop-position.invariant.walks c.inspect_at.ensures.walks
 
-pub returns-in_err-frontier-clause-asked : goal.returns-in_err-frontier-clause-asked
-returns-in_err-frontier-clause-asked g c = asked_by c.loop-position.invariant.walks.lists c.inspect_at.ensures.asked
+pub returns-in_err-frontier-clause-decidable : goal.returns-in_err-frontier-clause-decidable
+returns-in_err-frontier-clause-decidable g c = asked_by c.loop-position.invariant.walks.lists c.inspect_at.ensures.decidable
 
 pub returns-in_err-frontier-clause-walks : goal.returns-in_err-frontier-clause-walks
 returns-in_err-frontier-clause-walks g c = only_walks_along c.loop-position.invariant.walks c.inspect_at.ensures.walks

@@ -4,8 +4,8 @@ use Rattle.resolvo_queue.proofs.Picks.Steps.{along_walks, asked_by, only_walks_a
 use Rattle.resolvo_queue.proofs.Picks.Unbeaten.{picks_of_all, picks_of_root}
 use Rattle.resolvo_queue.proofs.deciding.next_offer.Goals as goal
 
-pub best_of-requires-clause-asked : goal.best_of-requires-clause-asked
-best_of-requires-clause-asked g c = asked_by (sym c.best_of_root.ensures.walks.lists) c.best_of_root.ensures.asked
+pub best_of-requires-clause-decidable : goal.best_of-requires-clause-decidable
+best_of-requires-clause-decidable g c = asked_by (sym c.best_of_root.ensures.walks.lists) c.best_of_root.ensures.decidable
 
 pub returns-in-Some-clause-picked : goal.returns-in-Some-clause-picked
 returns-in-Some-clause-picked g c =
@@ -22,8 +22,8 @@ returns-in-None-clause-picked g c =
     ∙ sym (picks_of_all (offered c.args.tracked.now.index.clauses.items (offers_on (by c.args.reader.now.lists)))
     (sym c.in_ok-offer.ensures.best ∙ c.in-None.is))) c.best_of.ensures.best
 
-pub returns-in-None-clause-asked : goal.returns-in-None-clause-asked
-returns-in-None-clause-asked g c = asked_by c.best_of_root.ensures.walks.lists c.best_of.ensures.asked
+pub returns-in-None-clause-decidable : goal.returns-in-None-clause-decidable
+returns-in-None-clause-decidable g c = asked_by c.best_of_root.ensures.walks.lists c.best_of.ensures.decidable
 
 pub returns-in-None-clause-walks : goal.returns-in-None-clause-walks
 returns-in-None-clause-walks g c = only_walks_along c.best_of_root.ensures.walks c.best_of.ensures.walks

@@ -6,8 +6,8 @@ use Rattle.resolvo_queue.proofs.inspection.inspect.Goals as goal
 pub returns-in_default-clause-once : goal.returns-in_default-clause-once
 returns-in_default-clause-once g c = walks_nothing c.args.requirements.now c.args.reader.now.walked
 
-pub returns-then-not-is_met-clause-once : goal.returns-then-not-is_met-clause-once
-returns-then-not-is_met-clause-once g c = walks_nothing c.args.requirements.now c.args.reader.now.walked
+pub returns-then-not-condition_holds-clause-once : goal.returns-then-not-condition_holds-clause-once
+returns-then-not-condition_holds-clause-once g c = walks_nothing c.args.requirements.now c.args.reader.now.walked
 
 pub returns-clause-set : goal.returns-clause-set
 returns-clause-set g c = frontier_set (g.I.Interner.universe c.args.question.now.interner.now) c.args.reader.now.lists

@@ -8,13 +8,13 @@ use Rattle.resolvo_queue.proofs.inspection.requirement_frontier.Goals as goal
 
 pub returns-in_ok-list_once-in-Unknown-clause-known : goal.returns-in_ok-list_once-in-Unknown-clause-known
 returns-in_ok-list_once-in-Unknown-clause-known g c =
-    ap (λ ts. known_at ts c.args.clause.now.record) c.keep.ensures.walked
+    ap (λ ts. known_at ts c.args.clause.now.record) c.store_walk.ensures.walked
     ∙ ap walk_of (is_at_place (walked c.walk-frontier.result) c.args.requirements.now c.args.clause.now.record
     c.requires.place.0 c.requires.place.1)
 
 pub returns-in_ok-list_once-in-Unknown-clause-listed : goal.returns-in_ok-list_once-in-Unknown-clause-listed
 returns-in_ok-list_once-in-Unknown-clause-listed g c =
-    subst (λ ts. IsListedWell c.args.reader.now.lists c.list_once.new.occurrences ts) (sym c.keep.ensures.walked)
+    subst (λ ts. IsListedWell c.args.reader.now.lists c.list_once.new.occurrences ts) (sym c.store_walk.ensures.walked)
     (listed_walked c.args.reader.now.lists c.args.clause.now.requirement c.list_once.new.occurrences
     c.args.requirements.now c.args.clause.now.record c.walk-frontier.result
     c.requires.place c.in_ok-list_once-in-Unknown.ensures.listed
@@ -24,11 +24,11 @@ returns-in_ok-list_once-in-Unknown-clause-listed g c =
 
 pub returns-in_ok-list_once-in-Unknown-clause-owes : goal.returns-in_ok-list_once-in-Unknown-clause-owes
 returns-in_ok-list_once-in-Unknown-clause-owes g c =
-    subst (λ ts. OwesSame c.args.requirements.now ts) (sym c.keep.ensures.walked)
+    subst (λ ts. OwesSame c.args.requirements.now ts) (sym c.store_walk.ensures.walked)
     (owes_walked c.args.requirements.now c.args.clause.now.record c.walk-frontier.result (sym c.in-Unknown.ensures))
 
-pub keep-requires : goal.keep-requires
-keep-requires g c = place_within c.args.requirements.now c.args.clause.now.requirement
+pub store_walk-requires : goal.store_walk-requires
+store_walk-requires g c = place_within c.args.requirements.now c.args.clause.now.requirement
     c.args.clause.now.record c.requires.place
 
 pub returns-in_err-list_once-in-Unknown-clause-listed : goal.returns-in_err-list_once-in-Unknown-clause-listed
@@ -39,17 +39,17 @@ returns-in_err-list_once-in-Unknown-clause-listed g c =
 
 pub returns-in_ok-list_once-in-Unknown-clause-found : goal.returns-in_ok-list_once-in-Unknown-clause-found
 returns-in_ok-list_once-in-Unknown-clause-found g c =
-    subst (λ ts. SameFound c.args.requirements.now ts) (sym c.keep.ensures.walked)
+    subst (λ ts. SameFound c.args.requirements.now ts) (sym c.store_walk.ensures.walked)
     (found_walked c.args.requirements.now c.args.clause.now.record c.walk-frontier.result)
 
 pub returns-in_ok-list_once-in-Unknown-clause-once : goal.returns-in_ok-list_once-in-Unknown-clause-once
 returns-in_ok-list_once-in-Unknown-clause-once g c =
     subst (λ ts. WalksOnce c.args.requirements.now ts c.args.reader.now.walked c.walk-frontier.new.self.walked)
-    (sym c.keep.ensures.walked)
+    (sym c.store_walk.ensures.walked)
     (subst (WalksOnce c.args.requirements.now _ c.args.reader.now.walked) (sym c.walk-frontier.ensures.walked)
     (walks_one c.args.clause.now.requirement c.args.clause.now.record c.walk-frontier.result c.args.requirements.now
     c.args.reader.now.walked c.requires.place
-    (λ k p. c.keep.ensures.only c.args.clause.now.requirement k c.requires.place p) (sym c.in-Unknown.ensures)))
+    (λ k p. c.store_walk.ensures.only c.args.clause.now.requirement k c.requires.place p) (sym c.in-Unknown.ensures)))
 
 pub returns-in_err-list_once-in-Unknown-clause-once : goal.returns-in_err-list_once-in-Unknown-clause-once
 returns-in_err-list_once-in-Unknown-clause-once g c = walks_nothing c.args.requirements.now c.args.reader.now.walked

@@ -13,8 +13,8 @@ returns-in_default g c =
     c.in_default.ensures.cases c.loop-list.invariant.left
     ∙ state-rows val (rows c.args.sets.now (map (λ l. l.items) lists))
 
-pub returns-in-Met : goal.returns-in-Met
-returns-in-Met g c =
+pub returns-in-Satisfied : goal.returns-in-Satisfied
+returns-in-Satisfied g c =
     let val = values_in c.args.decisions.now in
     let i = c.loop-list.list-index in
     let lists = c.args.lists.now in
@@ -22,7 +22,7 @@ returns-in-Met g c =
     let rest = drop (i + 1) lists in
     let behind : drop i lists ≡ list ∷ rest =
     drop_more lists i list c.loop-list-test.true ∙ ap (λ y. y ∷ rest) (sym c.list-item.is) in
-    met-whole val _ c.walk-state.result (rows c.in-Some.others.now (map (λ l. l.items) rest)) c.in-Met.is
+    met-whole val _ c.walk-state.result (rows c.in-Some.others.now (map (λ l. l.items) rest)) c.in-Satisfied.is
     (next-list val _ c.loop-list.state c.walk-state.result c.loop-list.left.now c.in-Some.others.now c.in-Some.set.now
     (map (λ l. l.items) (drop i lists)) (map (λ l. l.items) rest) list.items
     c.in-Some.ensures.cases.0 (ap (map (λ l. l.items)) behind)

@@ -4,8 +4,8 @@ use Rattle.resolvo_queue.proofs.Words.{list_rows, values_in, with_row, with_rows
 use Rattle.resolvo_queue.proofs.Rows.States.{met-whole}
 use Rattle.resolvo_queue.proofs.row_state.walk.Goals as goal
 
-pub returns-in-Met : goal.returns-in-Met
-returns-in-Met g c =
+pub returns-in-Satisfied : goal.returns-in-Satisfied
+returns-in-Satisfied g c =
     let val = values_in c.args.decisions.now in
     let list = c.args.list.now in
     let x = c.variable-item.result in
@@ -17,5 +17,5 @@ returns-in-Met g c =
     let next : c.with_row-state.result ≡ with_row state (val x) (record { set = c.args.set; variable = x }) =
     c.with_row-state.ensures ∙ ap (λ v. with_row state v (record { set = c.args.set; variable = x })) c.value.ensures in
     met-whole val (with_rows val c.args.state (list_rows c.args.set list)) c.with_row-state.result
-    (list_rows c.args.set rest) c.in-Met.is (ap (λ s. with_rows val s (list_rows c.args.set rest)) next
+    (list_rows c.args.set rest) c.in-Satisfied.is (ap (λ s. with_rows val s (list_rows c.args.set rest)) next
     ∙ (sym (ap (λ l. with_rows val state (list_rows c.args.set l)) behind) ∙ c.loop-variable.invariant.left))

@@ -5,7 +5,7 @@ use Rattle.std.specs.List.{list_all, list_any}
 use Rattle.typed_ids.specs.Refusals.{IsGrowthRefusal}
 use Rattle.providers.specs.Provider.{sets_of}
 use Rattle.variables.specs.Variables.{interned_variable, with_variables, lacks_variables, IsPartlyInterned}
-use Rattle.solver_cache.specs.Cache.{is_set_asked}
+use Rattle.solver_cache.specs.Cache.{is_set_queried}
 use Rattle.solver_cache.specs.Functions.{Provider, gathered}
 use Rattle.solver_cache.specs.Questions.{lacks_candidates}
 use Rattle.solver_cache.proofs.CacheLemmas.{on_err}
@@ -60,7 +60,7 @@ returns-clause-refused g c =
     let new = c.cache_sorted_lists.new.self in
     let sets = sets_of p.universe c.args.requirement in
     if_refused _ _ c.intern_lists.result
-    (growth_refused (list_all (is_set_asked p old) sets) (list_any (λ v. not (is_set_asked p old v) && lacks_candidates p new (p.universe.set_name v)) sets) _)
+    (growth_refused (list_all (is_set_queried p old) sets) (list_any (λ v. not (is_set_queried p old v) && lacks_candidates p new (p.universe.set_name v)) sets) _)
     (subst (λ l. IfErr c.intern_lists.result (IsGrowthRefusal (leb (2 ^ 40) (length l)
     || lacks_variables g.D.SolvableId.PartialEq.eq g.D.SolvableId.Slots.IdMap.is_too_large c.args.variables.now l)))
     (listed_joined p new c.in_ok-ids.ids.items sets c.in_ok-ids.ensures.answered.lists) c.intern_lists.ensures.refused)

@@ -1,5 +1,5 @@
 use Rattle.std.proofs.Common.{◌+◌, ◌≤◌, length}
-use Rattle.resolvo_store.specs.Store.{Store, Kept, store_of, gathered}
+use Rattle.resolvo_store.specs.Store.{Store, StoreState, store_of, gathered}
 use Rattle.script_text.specs.Lines.{lines as lines_of}
 use Rattle.scripts.specs.Commands.{Ids, ids_at}
 use Rattle.scripts.specs.Transcript.{HasCommand}
@@ -9,7 +9,7 @@ use Rattle.scripts.proofs.transcript.obey_lines.Given as goal
 
 -- the abstract store
 abbrev pub store : (g : goal.Over) →
-    Kept g.row.D.Denot g.row.D-NameId.Denot g.row.D-SolvableId.Denot g.row.D-NameId-Scores.Denot →
+    StoreState g.row.D.Denot g.row.D-NameId.Denot g.row.D-SolvableId.Denot g.row.D-NameId-Scores.Denot →
     Store g.row.D-NameId.Denot g.row.D-SolvableId.Denot
 store g = store_of (gathered g.D.NameId.PartialEq.eq g.D.SolvableId.PartialEq.eq g.D.NameId.Slots.IdMap.is_too_large
     g.D.SolvableId.Slots.IdMap.is_too_large g.D.SolvableId.Set.IdSet.is_too_large g.D.NameId.SolverId.are_many

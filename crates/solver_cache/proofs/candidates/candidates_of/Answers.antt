@@ -6,5 +6,5 @@ pub returns-clause-ok : goal.returns-clause-ok
 returns-clause-ok g c = record {
   candidates = grind (arith, common_steps);
   favored = grind (arith, common_steps);
-  told = (c.in_ok-found.found, c.in_ok-found.ensures.told, c.answered.ensures.whole);
+  allowed = (c.in_ok-found.found, c.in_ok-found.ensures.allowed, c.answered.ensures.whole);
 }

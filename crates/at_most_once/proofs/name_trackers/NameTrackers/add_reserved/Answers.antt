@@ -1,7 +1,7 @@
 use Rattle.std.proofs.Common.{◌≡◌, ◌<◌, Some, is_some, sym, subst, ap, ◌∙◌}
 use Rattle.std.specs.Prelude.{MatchOption}
 use Rattle.std.specs.Map.{lookup}
-use Rattle.id_storage.specs.KeptAnswers.{place_of}
+use Rattle.id_storage.specs.StoredAnswers.{place_of}
 use Rattle.id_storage.proofs.AnswerLemmas.{no_answer}
 use Rattle.at_most_once.specs.AtMostOne.{HasRoom}
 use Rattle.at_most_once.specs.NameTrackers.{tracker_of, with_tracked, HasRoomFor}

@@ -1,7 +1,7 @@
 use Rattle.std.proofs.Common.{◌<◌, is_some, sym, subst, ap, ◌∙◌}
 use Rattle.std.specs.Prelude.{OnOk, MatchOption}
 use Rattle.std.specs.Map.{lookup}
-use Rattle.id_storage.specs.KeptAnswers.{place_of}
+use Rattle.id_storage.specs.StoredAnswers.{place_of}
 use Rattle.at_most_once.specs.AtMostOne.{HasRoom}
 use Rattle.at_most_once.specs.NameTrackers.{tracker_of, HasRoomFor}
 use Rattle.at_most_once.proofs.TrackerLaws.{is_found, place_within, put_there, room_kept, still_found, still_kept, tracker_kept}

@@ -1,5 +1,5 @@
 use Rattle.std.proofs.Common.{◌^◌, ap, ◌∙◌, subst, sym}
-use Rattle.id_storage.specs.KeptAnswers.{AreKept}
+use Rattle.id_storage.specs.StoredAnswers.{AreStored}
 use Rattle.id_storage.proofs.AnswerLemmas.{none_kept}
 use Rattle.at_most_once.specs.NameTrackers.{tracker_of}
 use Rattle.at_most_once.proofs.TrackerLaws.{nothing_tracked}
@@ -8,7 +8,7 @@ use Rattle.at_most_once.proofs.name_trackers.NameTrackers.new.Goals as goal
 pub invariant_of-result : goal.invariant_of-result
 invariant_of-result g c =
     let places = g.N.Slots.IdMap.value_at c.new.result in
-    subst (AreKept g.N.PartialEq.eq g.N.SolverId.is_id (2 ^ 32) places) (sym c.new-2.ensures.items)
+    subst (AreStored g.N.PartialEq.eq g.N.SolverId.is_id (2 ^ 32) places) (sym c.new-2.ensures.items)
     (none_kept g.N.PartialEq.eq g.N.SolverId.is_id (2 ^ 32) places c.new.ensures)
 
 pub returns : goal.returns

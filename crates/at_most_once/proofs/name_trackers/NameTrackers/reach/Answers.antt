@@ -1,6 +1,6 @@
 use Rattle.std.proofs.Common.{◌≡◌, ◌≢◌, Some, None, is_some, true≢false, sym, ap, ◌∙◌}
 use Rattle.std.specs.Map.{lookup}
-use Rattle.id_storage.specs.KeptAnswers.{place_of}
+use Rattle.id_storage.specs.StoredAnswers.{place_of}
 use Rattle.id_storage.proofs.AnswerLemmas.{no_answer}
 use Rattle.at_most_once.proofs.name_trackers.NameTrackers.reach.Goals as goal
 

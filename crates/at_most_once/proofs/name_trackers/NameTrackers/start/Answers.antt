@@ -1,8 +1,8 @@
 use Rattle.std.proofs.Common.{◌≡◌, ◌<◌, ◌^◌, ◌++◌, ◌∷◌, [], None, is_some, length, min, sym, subst, ap, ◌∙◌, arith}
 use Rattle.std.specs.Prelude.{IsTrue}
 use Rattle.std.specs.Map.{lookup}
-use Rattle.id_storage.specs.KeptAnswers.{AreKept, place_of}
-use Rattle.id_storage.proofs.AnswerLemmas.{AreKept-push, AreKept-same, fewer_kept}
+use Rattle.id_storage.specs.StoredAnswers.{AreStored, place_of}
+use Rattle.id_storage.proofs.AnswerLemmas.{AreStored-push, AreStored-same, fewer_kept}
 use Rattle.at_most_once.specs.NameTrackers.{tracker_of, KeepsRoomFor, lacks_tracker}
 use Rattle.at_most_once.proofs.TrackerLaws.{room_started, too_many, tracker_missing, tracker_started}
 use Rattle.at_most_once.proofs.name_trackers.NameTrackers.start.Goals as goal
@@ -22,12 +22,12 @@ returns-then-place-clause-refused g c =
 
 pub invariant_of-self : goal.invariant_of-self
 invariant_of-self g c =
-    AreKept-same g.N.PartialEq.eq g.N.SolverId.is_id (2 ^ 32) _ _ c.self.inside.list.items c.make_room.ensures.same c.self.invariant
+    AreStored-same g.N.PartialEq.eq g.N.SolverId.is_id (2 ^ 32) _ _ c.self.inside.list.items c.make_room.ensures.same c.self.invariant
 
 pub invariant_of-self-in_err-reserve : goal.invariant_of-self-in_err-reserve
 invariant_of-self-in_err-reserve g c =
-    subst (AreKept g.N.PartialEq.eq g.N.SolverId.is_id (2 ^ 32) (g.N.Slots.IdMap.value_at c.make_room.new.self)) (sym c.reserve.ensures.items)
-    (AreKept-same g.N.PartialEq.eq g.N.SolverId.is_id (2 ^ 32) _ _ c.self.inside.list.items c.make_room.ensures.same c.self.invariant)
+    subst (AreStored g.N.PartialEq.eq g.N.SolverId.is_id (2 ^ 32) (g.N.Slots.IdMap.value_at c.make_room.new.self)) (sym c.reserve.ensures.items)
+    (AreStored-same g.N.PartialEq.eq g.N.SolverId.is_id (2 ^ 32) _ _ c.self.inside.list.items c.make_room.ensures.same c.self.invariant)
 
 pub invariant_of-self-2 : goal.invariant_of-self-2
 invariant_of-self-2 g c =
@@ -36,9 +36,9 @@ invariant_of-self-2 g c =
     let none : lookup (same c.args.name) kept ≡ None = ap (lookup (same c.args.name)) c.self.view_is ∙ c.requires in
     let size : c.len-place.result ≡ length kept = c.len-place.ensures ∙ c.self.inside.list.ok.0 in
     let below : c.len-place.result < min (2 ^ 32) (2 ^ 32) = omega (arith, c.if-place.false) in
-    subst (AreKept same g.N.SolverId.is_id (2 ^ 32) (g.N.Slots.IdMap.value_at c.put.new.self))
+    subst (AreStored same g.N.SolverId.is_id (2 ^ 32) (g.N.Slots.IdMap.value_at c.put.new.self))
     (sym (c.push_reserved.ensures.items ∙ ap (λ l. l ++ (c.args.name, c.new.result) ∷ []) c.reserve.ensures.items))
-    (AreKept-push same g.met.N.Eq.laws g.met.N.SameValue.same g.N.SolverId.is_id (2 ^ 32) c.len-place.result
+    (AreStored-push same g.met.N.Eq.laws g.met.N.SameValue.same g.N.SolverId.is_id (2 ^ 32) c.len-place.result
     _ _ _ kept c.args.name c.new.result size below
     c.self.invariant c.make_room.ensures.same none c.attest.ensures (c.put.ensures.put.0 ∙ c.new-2.ensures, c.put.ensures.put.1))
 
@@ -58,7 +58,7 @@ returns-clause-place g c =
     let size : c.len-place.result ≡ length kept = c.len-place.ensures ∙ c.self.inside.list.ok.0 in
     let below : c.len-place.result < min (2 ^ 32) (2 ^ 32) = omega (arith, c.if-place.false) in
     let put = c.put.ensures.put.0 ∙ c.new-2.ensures in
-    let more = AreKept-push same g.met.N.Eq.laws g.met.N.SameValue.same g.N.SolverId.is_id (2 ^ 32) c.len-place.result
+    let more = AreStored-push same g.met.N.Eq.laws g.met.N.SameValue.same g.N.SolverId.is_id (2 ^ 32) c.len-place.result
     _ _ _ kept c.args.name c.new.result size below
     c.self.invariant c.make_room.ensures.same none c.attest.ensures (put, c.put.ensures.put.1) in
     ap (λ now. place_of same now c.args.name)

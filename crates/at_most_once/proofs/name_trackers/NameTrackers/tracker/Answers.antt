@@ -1,5 +1,5 @@
 use Rattle.std.proofs.Common.{◌≡◌, ◌<◌, Some, None, is_some, sym, subst, ap, ◌∙◌}
-use Rattle.id_storage.specs.KeptAnswers.{place_of}
+use Rattle.id_storage.specs.StoredAnswers.{place_of}
 use Rattle.id_storage.proofs.AnswerLemmas.{no_answer}
 use Rattle.at_most_once.specs.AtMostOne.{empty}
 use Rattle.at_most_once.specs.NameTrackers.{tracker_of}

@@ -1,11 +1,11 @@
 use Rattle.std.proofs.Common.{◌≡◌, ◌&&◌, length, sym, subst, ◌∙◌}
-use Rattle.clause_counters.specs.Kept.{kept_in, fit_three}
-use Rattle.clause_counters.specs.Shown.{Shows}
+use Rattle.clause_counters.specs.CounterState.{counters_in, fit_three}
+use Rattle.clause_counters.specs.GroupedClauses.{Represents}
 use Rattle.clause_counters.proofs.AddedLaws.{shows_clause, clauses_shown}
 use Rattle.clause_counters.proofs.counters.ClauseCounters.add_clause.Goals as goal
 
-pub returns-clause-shown : goal.returns-clause-shown
-returns-clause-shown g c s shown =
+pub returns-clause-represents : goal.returns-clause-represents
+returns-clause-represents g c s represents =
     let f = c.self.inside in
     let ps = f.places.items in
     let ls = f.literals.items in
@@ -18,7 +18,7 @@ returns-clause-shown g c s shown =
     let same : length joined.new.groups.items ≡ length gs = sym joined.new.groups.ok.0
     ∙ (joined.ensures.len ∙ f.groups.ok.0) in
     let room = f.falsified.has_room && fit_three (length ms) f.members.cap in
-    let shows : Shows (kept_in ps ls ms gs firsts room) s = subst (λ v. Shows v s) (sym c.self.view_is) shown in (
+    let shows : Represents (counters_in ps ls ms gs firsts room) s = subst (λ v. Represents v s) (sym c.self.view_is) represents in (
       is ∙ clauses_shown ps ls ms gs firsts room s shows,
       shows_clause ps ls ms joined.new.members.items gs joined.new.groups.items firsts
           c.add-clause.new.self.firsts room _ s c.args.groups.now

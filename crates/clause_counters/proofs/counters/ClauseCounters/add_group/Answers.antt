@@ -5,14 +5,14 @@ use Rattle.clause_counters.specs.declared.groups.Group.{Group}
 use Rattle.clause_counters.specs.Links.{listed, count}
 use Rattle.clause_counters.specs.Counted.{standing_at}
 use Rattle.clause_counters.specs.Adding.{AreFlagged}
-use Rattle.clause_counters.specs.Kept.{kept_in, fit_three}
-use Rattle.clause_counters.specs.Shown.{Shows, once, with_group}
+use Rattle.clause_counters.specs.CounterState.{counters_in, fit_three}
+use Rattle.clause_counters.specs.GroupedClauses.{Represents, once, with_group}
 use Rattle.clause_counters.proofs.PoolLaws.{moved}
 use Rattle.clause_counters.proofs.AddedLaws.{shows_group, groups_shown}
 use Rattle.clause_counters.proofs.counters.ClauseCounters.add_group.Goals as goal
 
 pub returns-clause-ok : goal.returns-clause-ok
-returns-clause-ok g c s shown says =
+returns-clause-ok g c s represents says =
     let f = c.self.inside in
     let ps = f.places.items in
     let ls = f.literals.items in
@@ -26,7 +26,7 @@ returns-clause-ok g c s shown says =
     let list = c.args.literals.now in
     let n = c.len-group.result in
     let is : n ≡ length gs = c.len-group.ensures ∙ f.groups.ok.0 in
-    let shows : Shows (kept_in ps ls ms gs firsts room) s = subst (λ v. Shows v s) (sym c.self.view_is) shown in
+    let shows : Represents (counters_in ps ls ms gs firsts room) s = subst (λ v. Represents v s) (sym c.self.view_is) represents in
     let lists : (i h : ℕ) → count h (listed placed.new.places.items (standing_at placed.new.literals.items i).groups)
     ≡ count h (listed ps (standing_at ls i).groups) + cond (eqb n h) (once i list) 0 =
     λ i h. placed.ensures.lists i h ∙ ap (λ m. m + cond (eqb n h) (once i list) 0)
@@ -42,7 +42,7 @@ returns-clause-ok g c s shown says =
     ∙ ap (λ (xs : List Group). xs ++ (record { left = placed.result; clauses = 0 }) ∷ [])
     c.in_ok-reserve-2.ensures.items in (
       is ∙ groups_shown ps ls ms gs firsts room s shows,
-      subst (λ items. Shows (kept_in placed.new.places.items placed.new.literals.items ms items firsts room)
+      subst (λ items. Represents (counters_in placed.new.places.items placed.new.literals.items ms items firsts room)
           (with_group list s)) (sym pushed)
           (shows_group ps placed.new.places.items ls placed.new.literals.items ms gs firsts room s list n
           placed.result is shows lists

@@ -4,7 +4,7 @@ use Rattle.std.proofs.lemmas.Bool.{not-false}
 use Rattle.clause_counters.specs.declared.groups.Standing.{Standing}
 use Rattle.clause_counters.specs.Links.{listed, count}
 use Rattle.clause_counters.specs.Counted.{standing_at, no_standing}
-use Rattle.clause_counters.specs.Kept.{kept_in, told, IsSame, fit_three}
+use Rattle.clause_counters.specs.CounterState.{counters_in, with_flag, IsSame, fit_three}
 use Rattle.clause_counters.proofs.FlagLaws.{told_kept, of_literal, closed_literal}
 use Rattle.clause_counters.proofs.counters.ClauseCounters.reopen.Goals as goal
 
@@ -21,9 +21,9 @@ returns-then-at-eq0 g c =
     let at : c.index_mut.result.now ≡ standing_at ls i =
     get_or_read_under ls i f.literals.len c.index_mut.result.now no_standing c.index_mut.ensures.value within
     f.literals.ok.0 in
-    subst (λ (x : Standing). IsSame (told false i c.args.self.now)
-    (kept_in places (set ls i (record x { is_false = false })) members groups f.falsified.firsts room)) (sym at)
-    (subst (λ v. IsSame (told false i v) (kept_in places (set ls i (record (standing_at ls i) { is_false = false }))
+    subst (λ (x : Standing). IsSame (with_flag false i c.args.self.now)
+    (counters_in places (set ls i (record x { is_false = false })) members groups f.falsified.firsts room)) (sym at)
+    (subst (λ v. IsSame (with_flag false i v) (counters_in places (set ls i (record (standing_at ls i) { is_false = false }))
     members groups f.falsified.firsts room)) c.self.view_is
     (told_kept places ls members groups groups f.falsified.firsts f.falsified.firsts room room false i refl refl))
 
@@ -38,10 +38,10 @@ returns g c =
     let at : c.index_mut.result.now ≡ standing_at ls i =
     get_or_read_under ls i c.self.inside.literals.len c.index_mut.result.now no_standing c.index_mut.ensures.value
     within c.self.inside.literals.ok.0 in
-    subst (λ (x : Standing). IsSame (told false i c.args.self.now)
-    (kept_in places (set ls i (record x { is_false = false })) members
+    subst (λ (x : Standing). IsSame (with_flag false i c.args.self.now)
+    (counters_in places (set ls i (record x { is_false = false })) members
     c.raise_groups.new.groups.items c.raise_groups.new.falsified.firsts room)) (sym at)
-    (subst (λ v. IsSame (told false i v) (kept_in places (set ls i (record (standing_at ls i) { is_false = false }))
+    (subst (λ v. IsSame (with_flag false i v) (counters_in places (set ls i (record (standing_at ls i) { is_false = false }))
     members
     c.raise_groups.new.groups.items c.raise_groups.new.falsified.firsts room)) c.self.view_is
     (told_kept places ls members c.self.inside.groups.items c.raise_groups.new.groups.items

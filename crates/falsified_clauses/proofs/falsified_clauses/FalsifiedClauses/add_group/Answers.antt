@@ -4,7 +4,7 @@ use Rattle.typed_ids.specs.TotalMaps.{IsUpdate}
 use Rattle.falsified_clauses.specs.Clauses.{counted_under}
 use Rattle.falsified_clauses.specs.GroupKeys.{number_in}
 use Rattle.falsified_clauses.specs.GroupIndex.{number_of, FindsKeys}
-use Rattle.falsified_clauses.specs.Counts.{KeyedCounters, Counts, shown_by}
+use Rattle.falsified_clauses.specs.Counts.{KeyedCounters, Counts, grouped_by}
 use Rattle.falsified_clauses.proofs.KeyLaws.{finds_pushed}
 use Rattle.falsified_clauses.proofs.CountLaws.{counts_key}
 use Rattle.falsified_clauses.proofs.falsified_clauses.FalsifiedClauses.add_group.Goals as goal
@@ -31,7 +31,7 @@ returns-clause-same g c clauses counts =
     let s = counted_under c.args.lists.now c.args.disjunctions.now c.args.values.now clauses in
     let keys = c.self.inside.keys.items in
     let at = subst (λ k. Counts k s) (sym c.self.view_is) counts in
-    let made = c.in_ok-group.ensures.ok (shown_by keys s) at.shown (λ k d l. refl) in
+    let made = c.in_ok-group.ensures.ok (grouped_by keys s) at.represents (λ k d l. refl) in
     subst (λ ks. Counts (record { keys = ks; counters = c.add_key_group.new.counters }) s)
     (sym c.and-self-inside.ensures) (counts_key _ _ s at c.args.key.now c.requires.known made.1)
 

@@ -1,5 +1,5 @@
 use Rattle.std.proofs.Common.{sym, subst}
-use Rattle.falsified_clauses.specs.Counts.{Counts, shown_by}
+use Rattle.falsified_clauses.specs.Counts.{Counts, grouped_by}
 use Rattle.falsified_clauses.proofs.CountLaws.{shows_false}
 use Rattle.falsified_clauses.proofs.falsified_clauses.FalsifiedClauses.make_false.Goals as goal
 
@@ -7,8 +7,8 @@ pub returns : goal.returns
 returns g c s counts =
     let f = c.self.inside in
     let at = subst (λ k. Counts k s) (sym c.self.view_is) counts in record {
-      shown = shows_false f.keys.items _ s c.args.literal
-          (c.make_false.ensures.shown (shown_by f.keys.items s) at.shown);
+      represents = shows_false f.keys.items _ s c.args.literal
+          (c.make_false.ensures.represents (grouped_by f.keys.items s) at.represents);
       grouped = at.grouped;
       known = at.known;
     }

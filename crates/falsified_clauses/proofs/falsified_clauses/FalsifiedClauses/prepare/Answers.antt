@@ -6,7 +6,7 @@ use Rattle.falsified_clauses.specs.declared.group_key.GroupKey.{GroupKey}
 use Rattle.falsified_clauses.specs.declared.group_key.GroupKey.TheVariants.{Parent}
 use Rattle.falsified_clauses.specs.Clauses.{counted_under}
 use Rattle.falsified_clauses.specs.GroupKeys.{numbers, numbers_in, keys_of, HasGroups, AddsOnly, IsConditionKey}
-use Rattle.falsified_clauses.specs.Counts.{Counts, shown_by}
+use Rattle.falsified_clauses.specs.Counts.{Counts, grouped_by}
 use Rattle.falsified_clauses.proofs.KeyLaws.{keeps_both, adds_both, adds_listed, adds_within}
 use Rattle.falsified_clauses.proofs.GroupLaws.{condition_kept, groups_are, has_parent, has_condition, has_rows}
 use Rattle.falsified_clauses.proofs.CountLaws.{counts_kept, ready_is}
@@ -23,14 +23,14 @@ returns-in_err-make_room-clause-same g c clauses counts =
     let s = counted_under c.args.lists.now c.args.disjunctions.now c.args.values.now clauses in
     let last = subst (λ k. Counts k s) (sym c.self.view_is) (c.group-2.ensures.same clauses
     (c.condition_group.ensures.same clauses (c.group.ensures.same clauses counts))) in
-    counts_kept _ _ s last (c.make_room.ensures.shown (shown_by c.self.inside.keys.items s) last.shown)
+    counts_kept _ _ s last (c.make_room.ensures.represents (grouped_by c.self.inside.keys.items s) last.represents)
 
 pub returns-clause-same : goal.returns-clause-same
 returns-clause-same g c clauses counts =
     let s = counted_under c.args.lists.now c.args.disjunctions.now c.args.values.now clauses in
     let last = subst (λ k. Counts k s) (sym c.self.view_is) (c.group-2.ensures.same clauses
     (c.condition_group.ensures.same clauses (c.group.ensures.same clauses counts))) in
-    counts_kept _ _ s last (c.make_room.ensures.shown (shown_by c.self.inside.keys.items s) last.shown)
+    counts_kept _ _ s last (c.make_room.ensures.represents (grouped_by c.self.inside.keys.items s) last.represents)
 
 pub returns-in_err-parent-clause-keys : goal.returns-in_err-parent-clause-keys
 returns-in_err-parent-clause-keys g c =

@@ -15,7 +15,7 @@ falsified_clause-requires g c =
     let refs = references (g.D.Interner.universe c.args.provider.now) c.args.lists.now c.args.disjunctions.now in
     let stands : StandsOn refs before = subst (StandsOn refs) (sym c.self.view_is) c.requires.stands in
     record {
-      askable = λ n d e. askable_tracked refs inside.tracked.index.clauses.items stands.parts
+      inspectable = λ n d e. askable_tracked refs inside.tracked.index.clauses.items stands.parts
           (subst (λ (q : Queue g.row.D-NameId.Denot g.row.D-NameId-Set.Denot). All (CanWalk refs) q.clauses)
           (sym c.self.view_is) c.requires.walkable) n d
           (subst (λ l. slice_get l n ≡ Some d) c.as_slice.ensures.value e);

@@ -58,8 +58,8 @@ pub returns-in_err-wake_from-clause-owed : goal.returns-in_err-wake_from-clause-
 returns-in_err-wake_from-clause-owed g c =
     λ r. ap (λ (q : Queue g.row.D-NameId.Denot g.row.D-NameId-Set.Denot). owed q r) c.self.view_is
 
-pub next_offer-requires-clause-asked : goal.next_offer-requires-clause-asked
-next_offer-requires-clause-asked g c =
+pub next_offer-requires-clause-decidable : goal.next_offer-requires-clause-decidable
+next_offer-requires-clause-decidable g c =
     let inside = c.self.inside in
     let before : Queue g.row.D-NameId.Denot g.row.D-NameId-Set.Denot =
     queue_of inside.tracked inside.names.items inside.hot_names inside.woken in
@@ -68,7 +68,7 @@ next_offer-requires-clause-asked g c =
     record {
       located = c.self.invariant.0.order.located;
       first = c.self.invariant.0.order.first;
-      askable = askable_tracked refs inside.tracked.index.clauses.items stands.parts
+      inspectable = askable_tracked refs inside.tracked.index.clauses.items stands.parts
           (subst (λ (q : Queue g.row.D-NameId.Denot g.row.D-NameId-Set.Denot). All (CanWalk refs) q.clauses)
           (sym c.self.view_is) c.requires.walkable);
       listed = stands.listed;
@@ -103,7 +103,7 @@ invariant_of-self-2 g c =
     c.len-self-inside.ensures ∙ c.self.inside.tracked.index.clauses.ok.0 in (
       kept_still c.self.invariant.0
           (order_asked (ap (λ ix. ix.clauses.items) walks.index) (ap (λ ix. ix.by_parent) walks.index) walks.found
-          (ready_by walks.index c.next_offer.ensures.asked) c.self.invariant.0.order)
+          (ready_by walks.index c.next_offer.ensures.decidable) c.self.invariant.0.order)
           (ap (λ ix. ix.clauses.items) walks.index) refl refl
           (subst (λ k. k ≤ length c.self.inside.tracked.index.clauses.items) (sym len) (omega arith)),
       c.self.invariant.1,
@@ -125,8 +125,8 @@ returns-clause-stands g c =
     (ap (λ ix. map clause_of ix.clauses.items) index) (ap (λ ix. ix.clauses.items) index)
     (ap (λ ix. ix.by_condition) index) (values_in c.args.map.now)
     (subst (IsSynced (values_in c.args.map.now)) (sym c.self.view_is) c.requires.synced)
-    (ap (λ t. t.items) c.next_offer.ensures.walks.trail) len c.next_offer.ensures.asked.listed
-    (ready_by c.next_offer.ensures.walks.index c.next_offer.ensures.asked)
+    (ap (λ t. t.items) c.next_offer.ensures.walks.trail) len c.next_offer.ensures.decidable.listed
+    (ready_by c.next_offer.ensures.walks.index c.next_offer.ensures.decidable)
 
 pub returns-clause-picked : goal.returns-clause-picked
 returns-clause-picked g c =

@@ -2,7 +2,7 @@ use Rattle.std.proofs.Common.{◌≡◌, ◌∙◌, true, sym, subst}
 use Rattle.watch_map.specs.ClauseList.{contents, literals_watched}
 use Rattle.resolvo_store.specs.Adding.{names_known}
 use Rattle.resolvo_store.specs.Answers.{added}
-use Rattle.resolvo_store.specs.Store.{Provider, gathered, kept_literals, values}
+use Rattle.resolvo_store.specs.Store.{Provider, gathered, stored_of, values}
 use Rattle.resolvo_store.specs.Lists.{HasMarks}
 use Rattle.resolvo_store.proofs.CallerLaws.{store_in}
 use Rattle.resolvo_store.proofs.AddingLemmas.{step_added}
@@ -20,7 +20,7 @@ given g = gathered g.D.NameId.PartialEq.eq g.D.SolvableId.PartialEq.eq g.D.NameI
 pub add_clause-answer-requires : goal.add_clause-answer-requires
 add_clause-answer-requires g c =
     let st = store_in c.self.invariant.consistent.sound in
-    two_if_first (kept_literals st) (values st) c.args.clause (c.first_watches-conflict.ensures.watches (kept_literals st))
+    two_if_first (stored_of st) (values st) c.args.clause (c.first_watches-conflict.ensures.watches (stored_of st))
 
 pub invariant_of-self : goal.invariant_of-self
 invariant_of-self g c =
@@ -31,7 +31,7 @@ invariant_of-self g c =
     let call = c.add_clause-answer in
     let first = c.len-first.ensures.value ∙ sym c.self.invariant.consistent.sound.watched in
     record {
-      consistent = after_direct c.self.invariant.consistent c.args.clause (literals_watched made.result.0) call.result c.requires known (made.ensures.watches (kept_literals st)) call.ensures.ok call.ensures.err;
+      consistent = after_direct c.self.invariant.consistent c.args.clause (literals_watched made.result.0) call.result c.requires known (made.ensures.watches (stored_of st)) call.ensures.ok call.ensures.err;
       counted = c.self.invariant.counted;
       marked = subst (HasMarks (with_list (store_in c.self.invariant.consistent.sound) (contents call.new.clauses))) (sym c.forget_false_from.ensures) (marks_more (store_in c.self.invariant.consistent.sound) c.self.inside.marks c.self.invariant.marked (contents call.new.clauses) c.len-first.result first
           (added_or_same (contents c.self.inside.clauses) c.args.clause (literals_watched made.result.0) call.result call.ensures.ok call.ensures.err));
@@ -44,5 +44,5 @@ returns-clause-step g c =
     let known = subst (λ n. names_known (g.D.Interner.universe c.self.inside.cache.provider) n c.args.clause ≡ true) c.count.ensures.value
     (subst (λ p. names_known (g.D.Interner.universe p) c.count.result c.args.clause ≡ true) c.provider.ensures.provider (sym c.knows_named.ensures ∙ c.if-not-knows_named.false)) in
     step_added (given g) g.D.NameId.Scores.IdMap.value_at added c.args.clause (literals_watched made.result.0) made.result.1 c.add_clause-answer.result (contents c.add_clause-answer.new.clauses) c.self.view_is
-    c.requires known (made.ensures.watches (kept_literals st)) (made.ensures.conflict (kept_literals st))
+    c.requires known (made.ensures.watches (stored_of st)) (made.ensures.conflict (stored_of st))
     c.add_clause-answer.ensures.added c.add_clause-answer.ensures.ok c.add_clause-answer.ensures.err c.add_clause-answer.ensures.refused c.add_clause-answer.ensures.ids_out

@@ -9,7 +9,7 @@ use Rattle.resolvo_store.specs.Answers.{replied, tracked}
 use Rattle.resolvo_store.specs.Lists.{HasMarks}
 use Rattle.resolvo_store.specs.Outcome.{tracking}
 use Rattle.resolvo_store.specs.Step.{Step}
-use Rattle.resolvo_store.specs.Store.{Store, Kept, Provider, store_of, gathered}
+use Rattle.resolvo_store.specs.Store.{Store, StoreState, Provider, store_of, gathered}
 use Rattle.resolvo_store.specs.Tracking.{is_helper_among}
 use Rattle.resolvo_store.proofs.AddingLemmas.{both, failed}
 use Rattle.resolvo_store.proofs.InvariantLemmas.{after_tracked, tracked_or_same, with_list}
@@ -68,7 +68,7 @@ returns-clause-step g c =
     let after : Store g.row.D-NameId.Denot g.row.D-SolvableId.Denot = record (with_list old clauses) { origins = origins; trackers = trackers } in
     let parts = tracked_or_same old name v origins clauses trackers c.track-answer.result c.track-answer.ensures.variables c.track-answer.ensures.clauses c.track-answer.ensures.trackers
     c.track-answer.ensures.same_variables c.track-answer.ensures.same_clauses c.track-answer.ensures.same_trackers in
-    subst (λ (k : Kept g.row.D.Denot g.row.D-NameId.Denot g.row.D-SolvableId.Denot g.row.D-NameId-Scores.Denot). Step (store_of (given g) g.D.NameId.Scores.IdMap.value_at k) (AtMostOnce name v) (replied tracked c.track-answer.result) after) c.self.view_is
+    subst (λ (k : StoreState g.row.D.Denot g.row.D-NameId.Denot g.row.D-SolvableId.Denot g.row.D-NameId-Scores.Denot). Step (store_of (given g) g.D.NameId.Scores.IdMap.value_at k) (AtMostOnce name v) (replied tracked c.track-answer.result) after) c.self.view_is
     (step_tracked old name v c.track-answer.result after may (sym c.is_tracked.ensures ∙ c.if-is_tracked.false) c.track-answer.ensures.tracked parts.0 parts.1 c.track-answer.ensures.fits c.track-answer.ensures.refused)
 
 pub returns-clause-provider : goal.returns-clause-provider

@@ -1,11 +1,11 @@
 use Rattle.std.proofs.Common.{◌≡◌, ◌∙◌, refl, sym, subst, true}
 use Rattle.resolvo_queue.specs.References.{references}
-use Rattle.resolvo_store.specs.Asked.{asked_of}
+use Rattle.resolvo_store.specs.QueueState.{queue_state_of}
 use Rattle.resolvo_store.specs.Command.{Bump}
 use Rattle.resolvo_store.specs.Answers.{done, replied}
 use Rattle.resolvo_store.specs.Step.{Step}
 use Rattle.resolvo_store.specs.Walks.{WalksNothing}
-use Rattle.resolvo_store.specs.Store.{Store, Kept, Provider, store_of, gathered}
+use Rattle.resolvo_store.specs.Store.{Store, StoreState, Provider, store_of, gathered}
 use Rattle.resolvo_store.proofs.AddingLemmas.{step_grown, first_of_bump, always_said}
 use Rattle.resolvo_store.proofs.CallerLaws.{store_in}
 use Rattle.resolvo_store.proofs.CountedLemmas.{counted_still}
@@ -24,7 +24,7 @@ invariant_of-self g c =
     let inside = c.self.inside in
     record {
       consistent = after_bumped c.self.invariant.consistent g.D.NameId.PartialEq.eq g.met.D.NameId.SameValue.same c.args.name c.args.amount c.raise.result refl c.raise.ensures.clauses c.raise.ensures.synced
-          (c.raise.ensures.stands (references (g.D.Interner.universe inside.cache.provider) inside.loaded inside.disjunctions) c.self.invariant.consistent.may_ask.stands)
+          (c.raise.ensures.stands (references (g.D.Interner.universe inside.cache.provider) inside.loaded inside.disjunctions) c.self.invariant.consistent.may_decide.stands)
           c.raise.ensures.bumped c.raise.ensures.hot c.raise.ensures.same_scores c.raise.ensures.same_hot;
       counted = counted_still c.raise.ensures.clauses.clauses refl c.self.invariant.counted;
       marked = c.self.invariant.marked;
@@ -38,15 +38,15 @@ returns-clause-step g c =
     record st { scores = g.D.NameId.Scores.IdMap.value_at c.raise.new.scores.map; requires = c.raise.new.queue.clauses } in
     let large = g.D.NameId.Slots.IdMap.is_too_large name in
     let parts = bumped_or_same st name c.args.amount (g.D.NameId.Scores.IdMap.value_at c.raise.new.scores.map) c.raise.result refl c.raise.ensures.clauses.clauses c.raise.ensures.bumped c.raise.ensures.same_scores in
-    subst (λ (k : Kept g.row.D.Denot g.row.D-NameId.Denot g.row.D-SolvableId.Denot g.row.D-NameId-Scores.Denot). Step (store_of (given g) g.D.NameId.Scores.IdMap.value_at k) (Bump name c.args.amount) (replied done c.raise.result) after) c.self.view_is
+    subst (λ (k : StoreState g.row.D.Denot g.row.D-NameId.Denot g.row.D-SolvableId.Denot g.row.D-NameId-Scores.Denot). Step (store_of (given g) g.D.NameId.Scores.IdMap.value_at k) (Bump name c.args.amount) (replied done c.raise.result) after) c.self.view_is
     (step_grown st done (Bump name c.args.amount) large c.raise.result after refl
     (first_of_bump st name c.args.amount (subst (λ p. (g.D.Interner.universe p).knows_name name ≡ true) c.provider.ensures.provider (sym c.knows_name.ensures ∙ c.if-not-knows_name.false)))
     refl refl (λ h. h) (always_said c.raise.result) parts.0 parts.1 c.raise.ensures.refused c.raise.ensures.too_large)
 
-pub returns-then-not-knows_name-clause-asked : goal.returns-then-not-knows_name-clause-asked
-returns-then-not-knows_name-clause-asked g c = walks_no_more c.args.self.now.asked
+pub returns-then-not-knows_name-clause-queue_state : goal.returns-then-not-knows_name-clause-queue_state
+returns-then-not-knows_name-clause-queue_state g c = walks_no_more c.args.self.now.queue_state
 
-pub returns-clause-asked : goal.returns-clause-asked
-returns-clause-asked g c =
-    subst (λ (k : Kept g.row.D.Denot g.row.D-NameId.Denot g.row.D-SolvableId.Denot g.row.D-NameId-Scores.Denot). WalksNothing k.asked (asked_of c.raise.new.queue c.self.inside.trail)) c.self.view_is
+pub returns-clause-queue_state : goal.returns-clause-queue_state
+returns-clause-queue_state g c =
+    subst (λ (k : StoreState g.row.D.Denot g.row.D-NameId.Denot g.row.D-SolvableId.Denot g.row.D-NameId-Scores.Denot). WalksNothing k.queue_state (queue_state_of c.raise.new.queue c.self.inside.trail)) c.self.view_is
     (walks_still c.self.inside.queue c.raise.new.queue c.self.inside.trail c.raise.ensures.synced c.raise.ensures.walks c.raise.ensures.owed)

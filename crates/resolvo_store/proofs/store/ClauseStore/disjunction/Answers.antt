@@ -4,10 +4,10 @@ use Rattle.std.specs.Prelude.{Bool, length, ◌&&◌, nat_lt}
 use Rattle.decisions.specs.Literals.{variable_of}
 use Rattle.resolvo_store.specs.Command.{Disjunction, DisjunctionIs}
 use Rattle.resolvo_store.specs.Answers.{replied}
-use Rattle.resolvo_store.specs.Lists.{disjunctions_kept}
+use Rattle.resolvo_store.specs.Lists.{stored_disjunctions}
 use Rattle.resolvo_store.specs.Refusals.{are_disjunctions_out}
 use Rattle.resolvo_store.specs.Step.{Step}
-use Rattle.resolvo_store.specs.Store.{Kept, Provider, store_of, gathered}
+use Rattle.resolvo_store.specs.Store.{StoreState, Provider, store_of, gathered}
 use Rattle.resolvo_store.proofs.CallerLaws.{store_in}
 use Rattle.resolvo_store.proofs.AddingLemmas.{both, if_ok, step_grown, first_of_disjunction}
 use Rattle.resolvo_store.proofs.CountedLemmas.{follows_disjunction, keeps_counted}
@@ -26,10 +26,10 @@ invariant_of-self g c =
     let knows : Bool = list_all (λ l. nat_lt (variable_of l) (length c.self.inside.variables)) c.args.literals.now in
     let known = subst (λ n. (list_all (λ l. nat_lt (variable_of l) n) c.args.literals.now && (g.D.Interner.universe c.provider.result.now).knows_condition c.args.condition) ≡ true) c.count.ensures.value
     (sym c.knows_parts.ensures ∙ c.if-not-knows_parts.false) in
-    let call = c.keep_disjunction in
+    let call = c.store_disjunction in
     record {
-      consistent = after_disjunction c.self.invariant.consistent c.args.literals.now c.args.condition c.keep_disjunction.result refl (both knows ((g.D.Interner.universe c.provider.result.now).knows_condition c.args.condition) known).0
-          c.keep_disjunction.ensures.more c.keep_disjunction.ensures.ok c.keep_disjunction.ensures.err;
+      consistent = after_disjunction c.self.invariant.consistent c.args.literals.now c.args.condition c.store_disjunction.result refl (both knows ((g.D.Interner.universe c.provider.result.now).knows_condition c.args.condition) known).0
+          c.store_disjunction.ensures.more c.store_disjunction.ensures.ok c.store_disjunction.ensures.err;
       counted = keeps_counted refl (λ h. follows_disjunction c.self.inside.falsified c.self.inside.trail.entries _ call.new.disjunctions call.result call.ensures.more call.ensures.err h) c.self.invariant.counted;
       marked = marks_asked (store_in c.self.invariant.consistent.sound) c.self.inside.marks c.self.invariant.marked c.self.inside.disjunctions c.args.literals.now c.args.condition call.new.disjunctions call.result refl call.ensures.ok call.ensures.err;
     }
@@ -40,9 +40,9 @@ returns-clause-step g c =
     let known = subst (λ n. (list_all (λ l. nat_lt (variable_of l) n) c.args.literals.now && st.provider.universe.knows_condition c.args.condition) ≡ true) c.count.ensures.value
     (subst (λ p. (list_all (λ l. nat_lt (variable_of l) c.count.result) c.args.literals.now && (g.D.Interner.universe p).knows_condition c.args.condition) ≡ true) c.provider.ensures.provider
     (sym c.knows_parts.ensures ∙ c.if-not-knows_parts.false)) in
-    let made = record st { disjunctions = disjunctions_kept c.keep_disjunction.new.disjunctions } in
-    subst (λ (k : Kept g.row.D.Denot g.row.D-NameId.Denot g.row.D-SolvableId.Denot g.row.D-NameId-Scores.Denot). Step (store_of (given g) g.D.NameId.Scores.IdMap.value_at k) (Disjunction c.args.literals.now c.args.condition) (replied DisjunctionIs c.keep_disjunction.result) made) c.self.view_is
-    (step_grown st DisjunctionIs (Disjunction c.args.literals.now c.args.condition) (are_disjunctions_out st) c.keep_disjunction.result made refl
+    let made = record st { disjunctions = stored_disjunctions c.store_disjunction.new.disjunctions } in
+    subst (λ (k : StoreState g.row.D.Denot g.row.D-NameId.Denot g.row.D-SolvableId.Denot g.row.D-NameId-Scores.Denot). Step (store_of (given g) g.D.NameId.Scores.IdMap.value_at k) (Disjunction c.args.literals.now c.args.condition) (replied DisjunctionIs c.store_disjunction.result) made) c.self.view_is
+    (step_grown st DisjunctionIs (Disjunction c.args.literals.now c.args.condition) (are_disjunctions_out st) c.store_disjunction.result made refl
     (first_of_disjunction st c.args.literals.now c.args.condition known)
-    refl refl (λ h. h) (if_ok c.keep_disjunction.result (λ d. ap DisjunctionIs) c.keep_disjunction.ensures.disjunction) (on_ok c.keep_disjunction.result (ap (λ ds. record st { disjunctions = ds })) c.keep_disjunction.ensures.ok)
-    (on_err c.keep_disjunction.result (ap (λ ds. record st { disjunctions = disjunctions_kept ds })) c.keep_disjunction.ensures.err) c.keep_disjunction.ensures.refused c.keep_disjunction.ensures.ids_out)
+    refl refl (λ h. h) (if_ok c.store_disjunction.result (λ d. ap DisjunctionIs) c.store_disjunction.ensures.disjunction) (on_ok c.store_disjunction.result (ap (λ ds. record st { disjunctions = ds })) c.store_disjunction.ensures.ok)
+    (on_err c.store_disjunction.result (ap (λ ds. record st { disjunctions = stored_disjunctions ds })) c.store_disjunction.ensures.err) c.store_disjunction.ensures.refused c.store_disjunction.ensures.ids_out)

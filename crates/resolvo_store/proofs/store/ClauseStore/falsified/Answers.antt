@@ -4,7 +4,7 @@ use Rattle.decisions.specs.Decisions.{values_in}
 use Rattle.resolvo_queue.specs.References.{CanWalk, literals_in, references, rows_in}
 use Rattle.resolvo_queue.specs.Scan.{first_falsified}
 use Rattle.resolvo_store.specs.Outcome.{falsified_clause}
-use Rattle.resolvo_store.specs.Store.{Kept, Provider, store_of, gathered, kept_literals}
+use Rattle.resolvo_store.specs.Store.{StoreState, Provider, store_of, gathered, stored_of}
 use Rattle.resolvo_store.proofs.AskingLemmas.{can_walk, seen_by_store}
 use Rattle.resolvo_store.proofs.CallerLaws.{store_in}
 use Rattle.resolvo_store.proofs.store.ClauseStore.falsified.Given.{Over}
@@ -24,9 +24,9 @@ falsified-requires-clause-walkable g c =
 pub returns : goal.returns
 returns g c =
     let inside = c.self.inside in
-    let kept = kept_literals (store_in c.self.invariant.consistent.sound) in
+    let kept = stored_of (store_in c.self.invariant.consistent.sound) in
     let found = subst (λ p. let refs = references (g.D.Interner.universe p) inside.loaded inside.disjunctions in
     c.falsified.result ≡ option_map (λ q. q.clause_id) (first_falsified (values_in c.map.result.now) (literals_in refs) (rows_in refs) inside.queue.clauses)) c.provider.ensures.provider c.falsified.ensures in
-    subst (λ (k : Kept g.row.D.Denot g.row.D-NameId.Denot g.row.D-SolvableId.Denot g.row.D-NameId-Scores.Denot). c.falsified.result ≡ option_map (λ q. q.clause_id) (falsified_clause (store_of (given g) g.D.NameId.Scores.IdMap.value_at k))) c.self.view_is
+    subst (λ (k : StoreState g.row.D.Denot g.row.D-NameId.Denot g.row.D-SolvableId.Denot g.row.D-NameId-Scores.Denot). c.falsified.result ≡ option_map (λ q. q.clause_id) (falsified_clause (store_of (given g) g.D.NameId.Scores.IdMap.value_at k))) c.self.view_is
     (seen_by_store (g.D.Interner.universe inside.cache.provider) inside.loaded inside.disjunctions kept.learnt kept.lists
     (λ val literals_of rows_of. c.falsified.result ≡ option_map (λ q. q.clause_id) (first_falsified val literals_of rows_of inside.queue.clauses)) c.map.ensures.values found)

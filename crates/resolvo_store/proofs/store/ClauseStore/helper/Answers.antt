@@ -7,7 +7,7 @@ use Rattle.resolvo_store.specs.Command.{Helper, Refused, VariableIs}
 use Rattle.resolvo_store.specs.Answers.{replied}
 use Rattle.resolvo_store.specs.Outcome.{helper_origin}
 use Rattle.resolvo_store.specs.Step.{Step}
-use Rattle.resolvo_store.specs.Store.{Kept, Provider, store_of, gathered}
+use Rattle.resolvo_store.specs.Store.{StoreState, Provider, store_of, gathered}
 use Rattle.std.specs.Prelude.{List}
 use Rattle.resolvo_store.proofs.AddingLemmas.{step_foreseen, step_grown, if_ok}
 use Rattle.resolvo_store.proofs.HelperLemmas.{helper_known_is, first_of_helper, first_of_unknown_helper}
@@ -27,7 +27,7 @@ returns-then-not-knows_helper-clause-step g c =
     let st = store_in c.self.invariant.consistent.sound in
     let origin = c.args.origin in
     let known_is = subst (λ p. c.knows_helper.result ≡ is_helper_known (g.D.Interner.universe p) origin) c.provider.ensures.provider c.knows_helper.ensures ∙ helper_known_is st origin in
-    subst (λ (k : Kept g.row.D.Denot g.row.D-NameId.Denot g.row.D-SolvableId.Denot g.row.D-NameId-Scores.Denot). let now = store_of (given g) g.D.NameId.Scores.IdMap.value_at k in Step now (Helper origin) (Refused UnknownId) now) c.self.view_is
+    subst (λ (k : StoreState g.row.D.Denot g.row.D-NameId.Denot g.row.D-SolvableId.Denot g.row.D-NameId-Scores.Denot). let now = store_of (given g) g.D.NameId.Scores.IdMap.value_at k in Step now (Helper origin) (Refused UnknownId) now) c.self.view_is
     (step_foreseen st (Helper origin) UnknownId (first_of_unknown_helper st origin (sym known_is ∙ c.if-not-knows_helper.true)))
 
 pub invariant_of-self : goal.invariant_of-self
@@ -49,6 +49,6 @@ returns-clause-step g c =
     let known_is = subst (λ p. c.knows_helper.result ≡ is_helper_known (g.D.Interner.universe p) origin) c.provider.ensures.provider c.knows_helper.ensures ∙ helper_known_is st origin in
     let with_origins = λ (os : List (VariableOrigin g.row.D-NameId.Denot g.row.D-SolvableId.Denot)). record st { origins = os } in
     let made = with_origins c.alloc_helper.new.variables in
-    subst (λ (k : Kept g.row.D.Denot g.row.D-NameId.Denot g.row.D-SolvableId.Denot g.row.D-NameId-Scores.Denot). Step (store_of (given g) g.D.NameId.Scores.IdMap.value_at k) (Helper origin) (replied VariableIs c.alloc_helper.result) made) c.self.view_is
+    subst (λ (k : StoreState g.row.D.Denot g.row.D-NameId.Denot g.row.D-SolvableId.Denot g.row.D-NameId-Scores.Denot). Step (store_of (given g) g.D.NameId.Scores.IdMap.value_at k) (Helper origin) (replied VariableIs c.alloc_helper.result) made) c.self.view_is
     (step_grown st VariableIs (Helper origin) (are_variables_out (length st.origins)) c.alloc_helper.result made refl (first_of_helper st origin (sym known_is ∙ c.if-not-knows_helper.false)) refl refl (λ h. h) (if_ok c.alloc_helper.result (λ v. ap VariableIs) c.alloc_helper.ensures.variable)
     (on_ok c.alloc_helper.result (ap with_origins) c.alloc_helper.ensures.ok) (on_err c.alloc_helper.result (ap with_origins) c.alloc_helper.ensures.err) c.alloc_helper.ensures.refused c.alloc_helper.ensures.ids_out)

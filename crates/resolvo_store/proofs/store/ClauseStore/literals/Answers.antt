@@ -1,6 +1,6 @@
 use Rattle.std.proofs.Common.{◌≡◌, ◌∙◌, sym, ap, subst, Some, slice_get, option_map}
 use Rattle.clauses.specs.Clauses.{literals_of}
-use Rattle.resolvo_store.specs.Store.{Kept, Provider, store_of, gathered, kept_literals}
+use Rattle.resolvo_store.specs.Store.{StoreState, Provider, store_of, gathered, stored_of}
 use Rattle.resolvo_store.proofs.CallerLaws.{store_in}
 use Rattle.resolvo_store.proofs.ListLemmas.{literals-kept}
 use Rattle.resolvo_store.proofs.store.ClauseStore.literals.Given.{Over}
@@ -17,6 +17,6 @@ returns-clause-ok g c =
     let st = store_in c.self.invariant.consistent.sound in
     let found : slice_get inside.clauses.clauses c.args.clause ≡ Some c.in-Some.clause = sym c.get.ensures ∙ c.in-Some.is in
     let same = literals-kept c.learnt-learnt.result.now inside.clauses.learnt inside.loaded inside.disjunctions c.learnt-learnt.ensures in
-    subst (λ (k : Kept g.row.D.Denot g.row.D-NameId.Denot g.row.D-SolvableId.Denot g.row.D-NameId-Scores.Denot). Some c.in_ok-literals.literals.items ≡ option_map (literals_of (kept_literals (store_of (given g) g.D.NameId.Scores.IdMap.value_at k))) (slice_get k.clauses c.args.clause))
+    subst (λ (k : StoreState g.row.D.Denot g.row.D-NameId.Denot g.row.D-SolvableId.Denot g.row.D-NameId-Scores.Denot). Some c.in_ok-literals.literals.items ≡ option_map (literals_of (stored_of (store_of (given g) g.D.NameId.Scores.IdMap.value_at k))) (slice_get k.clauses c.args.clause))
     c.self.view_is
-    (ap Some (c.in_ok-literals.ensures.ok ∙ ap (λ kept. literals_of kept c.in-Some.clause) same) ∙ ap (option_map (literals_of (kept_literals st))) (sym found))
+    (ap Some (c.in_ok-literals.ensures.ok ∙ ap (λ kept. literals_of kept c.in-Some.clause) same) ∙ ap (option_map (literals_of (stored_of st))) (sym found))

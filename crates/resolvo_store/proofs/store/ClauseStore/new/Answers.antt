@@ -1,11 +1,11 @@
 use Rattle.std.proofs.Common.{rules, refl, subst, sym, take, [], arith}
 use Rattle.watch_map.specs.ClauseList.{Clauses}
-use Rattle.resolvo_store.specs.Asked.{asked_of}
+use Rattle.resolvo_store.specs.QueueState.{queue_state_of}
 use Rattle.resolvo_store.specs.Counted.{AreCounted}
 use Rattle.resolvo_store.proofs.CountedLemmas.{none_counted}
-use Rattle.resolvo_store.specs.Lists.{lists_kept, disjunctions_kept, IsConsistent}
+use Rattle.resolvo_store.specs.Lists.{lists_of_loaded, stored_disjunctions, IsConsistent}
 use Rattle.resolvo_store.specs.Sound.{IsSound}
-use Rattle.resolvo_store.specs.Store.{Kept, Provider, store_of, gathered}
+use Rattle.resolvo_store.specs.Store.{StoreState, Provider, store_of, gathered}
 use Rattle.resolvo_store.proofs.InvariantLemmas.{with_list, new_may_ask}
 use Rattle.resolvo_store.proofs.SoundSteps.{IsSound-new_store}
 use Rattle.resolvo_store.proofs.store.ClauseStore.new.Given.{Over}
@@ -18,11 +18,11 @@ given g = gathered g.D.NameId.PartialEq.eq g.D.SolvableId.PartialEq.eq g.D.NameI
 
 pub invariant_of-result : goal.invariant_of-result
 invariant_of-result g c =
-    let kept : Kept g.row.D.Denot g.row.D-NameId.Denot g.row.D-SolvableId.Denot g.row.D-NameId-Scores.Denot = record {
+    let kept : StoreState g.row.D.Denot g.row.D-NameId.Denot g.row.D-SolvableId.Denot g.row.D-NameId-Scores.Denot = record {
       provider = c.new-3.result.provider;
       origins = c.in_ok-variables.variables;
-      loaded = lists_kept c.new-4.result;
-      disjunctions = disjunctions_kept c.new-5.result;
+      loaded = lists_of_loaded c.new-4.result;
+      disjunctions = stored_disjunctions c.new-5.result;
       learnt = [];
       clauses = [];
       records = [];
@@ -32,7 +32,7 @@ invariant_of-result g c =
       place = c.new-8.result.place;
       trackers = c.new-10.result;
       scores = c.new-11.result.map;
-      asked = asked_of c.new-6.result c.new-8.result;
+      queue_state = queue_state_of c.new-6.result c.new-8.result;
     } in
     record {
       consistent = subst (λ (cs : Clauses g.row.D-NameId.Denot). IsConsistent g.D.NameId.Set.IdSet.has (with_list (store_of (given g) g.D.NameId.Scores.IdMap.value_at kept) cs) c.new-4.result c.new-5.result c.new-3.result c.new-6.result c.new-8.result) (sym c.in_ok-clauses.ensures.ok)
@@ -41,8 +41,8 @@ invariant_of-result g c =
             few = search rules;
             known = search rules;
             sound = IsSound-new_store _;
-            asked = search rules;
-            may_ask = new_may_ask c.new-6.result _ _ c.new-6.ensures.new c.new-6.ensures.stands refl;
+            queried = search rules;
+            may_decide = new_may_ask c.new-6.result _ _ c.new-6.ensures.new c.new-6.ensures.stands refl;
           }));
       counted = subst (λ rs. AreCounted c.new-7.result rs c.new-8.result.entries c.new-4.result c.new-5.result) (sym c.new-6.ensures.new.clauses)
           (none_counted c.new-7.result c.new-8.result.entries c.new-7.ensures.none.0 c.new-7.ensures.none.1 (c.new-7.ensures.clauses c.new-4.result c.new-5.result));
@@ -51,11 +51,11 @@ invariant_of-result g c =
 
 pub returns-clause-sound : goal.returns-clause-sound
 returns-clause-sound g c =
-    let kept : Kept g.row.D.Denot g.row.D-NameId.Denot g.row.D-SolvableId.Denot g.row.D-NameId-Scores.Denot = record {
+    let kept : StoreState g.row.D.Denot g.row.D-NameId.Denot g.row.D-SolvableId.Denot g.row.D-NameId-Scores.Denot = record {
       provider = c.new-3.result.provider;
       origins = c.in_ok-variables.variables;
-      loaded = lists_kept c.new-4.result;
-      disjunctions = disjunctions_kept c.new-5.result;
+      loaded = lists_of_loaded c.new-4.result;
+      disjunctions = stored_disjunctions c.new-5.result;
       learnt = [];
       clauses = [];
       records = [];
@@ -65,7 +65,7 @@ returns-clause-sound g c =
       place = c.new-8.result.place;
       trackers = c.new-10.result;
       scores = c.new-11.result.map;
-      asked = asked_of c.new-6.result c.new-8.result;
+      queue_state = queue_state_of c.new-6.result c.new-8.result;
     } in
     subst (λ (cs : Clauses g.row.D-NameId.Denot). IsSound (with_list (store_of (given g) g.D.NameId.Scores.IdMap.value_at kept) cs)) (sym c.in_ok-clauses.ensures.ok)
     (rw (c.in_ok-variables.ensures.ok, c.new-3.ensures.provider, c.new-4.ensures, c.new-5.ensures, c.new-6.ensures.new.clauses, c.new-8.ensures, c.new-10.ensures, c.new-11.ensures) (IsSound-new_store _))

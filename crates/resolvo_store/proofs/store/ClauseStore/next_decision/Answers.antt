@@ -7,12 +7,12 @@ use Rattle.resolvo_queue.specs.Queue.{HasTrail, StandsOn, values_of}
 use Rattle.resolvo_queue.specs.References.{CanWalk, references}
 use Rattle.resolvo_queue.specs.Scan.{scan, is_eligible, first_falsified}
 use Rattle.resolvo_queue.proofs.Clauses.Callers.{values_of_entries}
-use Rattle.resolvo_store.specs.Asked.{asked_of}
+use Rattle.resolvo_store.specs.QueueState.{queue_state_of}
 use Rattle.resolvo_store.specs.Lists.{IsConsistent}
 use Rattle.resolvo_store.specs.Outcome.{falsified_clause, is_eligible_clause, offers, picked}
-use Rattle.resolvo_store.specs.Store.{Kept, Provider, store_of, gathered, kept_literals}
+use Rattle.resolvo_store.specs.Store.{StoreState, Provider, store_of, gathered, stored_of}
 use Rattle.resolvo_store.specs.Synced.{decisions_of}
-use Rattle.resolvo_store.specs.Walks.{AsksOnce, IsTold}
+use Rattle.resolvo_store.specs.Walks.{WalksEachOnce, HasSynced}
 use Rattle.resolvo_store.proofs.AskingLemmas.{can_walk, asked_as_store, asked_by_store}
 use Rattle.resolvo_store.proofs.CallerLaws.{store_in}
 use Rattle.resolvo_store.proofs.CountedLemmas.{counted_still}
@@ -44,7 +44,7 @@ next_decision-requires-clause-stands g c =
     let inside = c.self.inside in
     subst (λ ls. StandsOn (references (g.D.Interner.universe c.provider.result.now) ls inside.disjunctions) c.sync.new.self) (sym c.new-reader.ensures.lists)
     (subst (λ p. StandsOn (references (g.D.Interner.universe p) inside.loaded inside.disjunctions) c.sync.new.self) (sym c.provider.ensures.provider)
-    (c.sync.ensures.stands (references (g.D.Interner.universe inside.cache.provider) inside.loaded inside.disjunctions) c.self.invariant.consistent.may_ask.stands))
+    (c.sync.ensures.stands (references (g.D.Interner.universe inside.cache.provider) inside.loaded inside.disjunctions) c.self.invariant.consistent.may_decide.stands))
 
 -- after the queue was brought up to date, or not
 pub invariant_of-self : goal.invariant_of-self
@@ -55,7 +55,7 @@ invariant_of-self g c =
       consistent = subst (λ (t : Trail). IsConsistent g.D.NameId.Set.IdSet.has (record st { requires = c.sync.new.self.clauses; trail = t.entries; place = t.place }) inside.loaded inside.disjunctions inside.cache c.sync.new.self t)
           (sym c.take_sync_floor-floor.ensures.trail)
           (after_sync c.self.invariant.consistent c.sync.result refl c.sync.ensures.clauses c.sync.ensures.hot
-          (c.sync.ensures.stands (references (g.D.Interner.universe inside.cache.provider) inside.loaded inside.disjunctions) c.self.invariant.consistent.may_ask.stands)
+          (c.sync.ensures.stands (references (g.D.Interner.universe inside.cache.provider) inside.loaded inside.disjunctions) c.self.invariant.consistent.may_decide.stands)
           (subst (λ ds. OnOk c.sync.result (HasTrail ds c.sync.new.self)) (c.assignments.ensures.decisions ∙ ap (λ t. decisions_of t.entries) c.take_sync_floor-floor.ensures.trail) c.sync.ensures.ok)
           c.sync.ensures.err);
       counted = counted_still c.sync.ensures.clauses.clauses (ap (λ (t : Trail). t.entries) c.take_sync_floor-floor.ensures.trail) c.self.invariant.counted;
@@ -73,18 +73,18 @@ next_decision-requires-clause-walkable g c =
 pub next_decision-requires-clause-none_falsified : goal.next_decision-requires-clause-none_falsified
 next_decision-requires-clause-none_falsified g c =
     let inside = c.self.inside in
-    let kept = kept_literals (store_in c.self.invariant.consistent.sound) in
+    let kept = stored_of (store_in c.self.invariant.consistent.sound) in
     asked_by_store (g.D.Interner.universe inside.cache.provider) inside.loaded inside.disjunctions kept.learnt kept.lists
     (λ val literals_of rows_of score_of clauses. first_falsified val literals_of rows_of clauses ≡ None)
     (ap g.D.Interner.universe c.provider.ensures.provider) c.new-reader.ensures.lists (c.map-2.ensures.values ∙ ap (λ t. val t.entries) c.take_sync_floor-floor.ensures.trail)
     (ap g.D.NameId.Scores.IdMap.value_at c.map-3.ensures) c.sync.ensures.clauses.clauses
-    (subst (λ (k : Kept g.row.D.Denot g.row.D-NameId.Denot g.row.D-SolvableId.Denot g.row.D-NameId-Scores.Denot). falsified_clause (store_of (given g) g.D.NameId.Scores.IdMap.value_at k) ≡ None) (sym c.self.view_is) c.requires)
+    (subst (λ (k : StoreState g.row.D.Denot g.row.D-NameId.Denot g.row.D-SolvableId.Denot g.row.D-NameId-Scores.Denot). falsified_clause (store_of (given g) g.D.NameId.Scores.IdMap.value_at k) ≡ None) (sym c.self.view_is) c.requires)
 
 pub returns-clause-picked : goal.returns-clause-picked
 returns-clause-picked g c =
     let inside = c.self.inside in
-    let kept = kept_literals (store_in c.self.invariant.consistent.sound) in
-    subst (λ (k : Kept g.row.D.Denot g.row.D-NameId.Denot g.row.D-SolvableId.Denot g.row.D-NameId-Scores.Denot). IfOk c.next_decision.result (λ decision. decision ≡ option_map decided (picked (store_of (given g) g.D.NameId.Scores.IdMap.value_at k)))) c.self.view_is
+    let kept = stored_of (store_in c.self.invariant.consistent.sound) in
+    subst (λ (k : StoreState g.row.D.Denot g.row.D-NameId.Denot g.row.D-SolvableId.Denot g.row.D-NameId-Scores.Denot). IfOk c.next_decision.result (λ decision. decision ≡ option_map decided (picked (store_of (given g) g.D.NameId.Scores.IdMap.value_at k)))) c.self.view_is
     (asked_as_store (g.D.Interner.universe inside.cache.provider) inside.loaded inside.disjunctions kept.learnt kept.lists
     (λ val literals_of rows_of score_of clauses. IfOk c.next_decision.result (λ decision. decision ≡ option_map decided (pick (eligible val literals_of rows_of score_of clauses))))
     (ap g.D.Interner.universe c.provider.ensures.provider) c.new-reader.ensures.lists (c.map-2.ensures.values ∙ ap (λ t. val t.entries) c.take_sync_floor-floor.ensures.trail)
@@ -94,8 +94,8 @@ returns-clause-picked g c =
 pub returns-clause-none : goal.returns-clause-none
 returns-clause-none g c =
     let inside = c.self.inside in
-    let kept = kept_literals (store_in c.self.invariant.consistent.sound) in
-    subst (λ (k : Kept g.row.D.Denot g.row.D-NameId.Denot g.row.D-SolvableId.Denot g.row.D-NameId-Scores.Denot). IfOk c.next_decision.result (λ decision. (decision ≡ None) ↔ All (λ q. is_eligible_clause (store_of (given g) g.D.NameId.Scores.IdMap.value_at k) q ≡ false) (scan k.requires))) c.self.view_is
+    let kept = stored_of (store_in c.self.invariant.consistent.sound) in
+    subst (λ (k : StoreState g.row.D.Denot g.row.D-NameId.Denot g.row.D-SolvableId.Denot g.row.D-NameId-Scores.Denot). IfOk c.next_decision.result (λ decision. (decision ≡ None) ↔ All (λ q. is_eligible_clause (store_of (given g) g.D.NameId.Scores.IdMap.value_at k) q ≡ false) (scan k.requires))) c.self.view_is
     (asked_as_store (g.D.Interner.universe inside.cache.provider) inside.loaded inside.disjunctions kept.learnt kept.lists
     (λ val literals_of rows_of score_of clauses. IfOk c.next_decision.result (λ decision. (decision ≡ None) ↔ All (λ q. is_eligible val literals_of rows_of q ≡ false) (scan clauses)))
     (ap g.D.Interner.universe c.provider.ensures.provider) c.new-reader.ensures.lists (c.map-2.ensures.values ∙ ap (λ t. val t.entries) c.take_sync_floor-floor.ensures.trail)
@@ -105,8 +105,8 @@ returns-clause-none g c =
 pub returns-clause-unbeaten : goal.returns-clause-unbeaten
 returns-clause-unbeaten g c =
     let inside = c.self.inside in
-    let kept = kept_literals (store_in c.self.invariant.consistent.sound) in
-    subst (λ (k : Kept g.row.D.Denot g.row.D-NameId.Denot g.row.D-SolvableId.Denot g.row.D-NameId-Scores.Denot). IfOk c.next_decision.result (DecidesUnbeaten (offers (store_of (given g) g.D.NameId.Scores.IdMap.value_at k)))) c.self.view_is
+    let kept = stored_of (store_in c.self.invariant.consistent.sound) in
+    subst (λ (k : StoreState g.row.D.Denot g.row.D-NameId.Denot g.row.D-SolvableId.Denot g.row.D-NameId-Scores.Denot). IfOk c.next_decision.result (DecidesUnbeaten (offers (store_of (given g) g.D.NameId.Scores.IdMap.value_at k)))) c.self.view_is
     (asked_as_store (g.D.Interner.universe inside.cache.provider) inside.loaded inside.disjunctions kept.learnt kept.lists
     (λ val literals_of rows_of score_of clauses. IfOk c.next_decision.result (DecidesUnbeaten (eligible val literals_of rows_of score_of clauses)))
     (ap g.D.Interner.universe c.provider.ensures.provider) c.new-reader.ensures.lists (c.map-2.ensures.values ∙ ap (λ t. val t.entries) c.take_sync_floor-floor.ensures.trail)
@@ -128,16 +128,16 @@ returns-clause-same g c = grind (arith, common_steps)
 pub returns-clause-provider : goal.returns-clause-provider
 returns-clause-provider g c = grind (arith, common_steps)
 
-pub returns-in_err-sync-clause-asked : goal.returns-in_err-sync-clause-asked
-returns-in_err-sync-clause-asked g c =
-    subst (λ (k : Kept g.row.D.Denot g.row.D-NameId.Denot g.row.D-SolvableId.Denot g.row.D-NameId-Scores.Denot). AsksOnce (store_of (given g) g.D.NameId.Scores.IdMap.value_at k) k.asked (asked_of c.sync.new.self c.take_sync_floor-floor.new.self)) c.self.view_is
+pub returns-in_err-sync-clause-queue_state : goal.returns-in_err-sync-clause-queue_state
+returns-in_err-sync-clause-queue_state g c =
+    subst (λ (k : StoreState g.row.D.Denot g.row.D-NameId.Denot g.row.D-SolvableId.Denot g.row.D-NameId-Scores.Denot). WalksEachOnce (store_of (given g) g.D.NameId.Scores.IdMap.value_at k) k.queue_state (queue_state_of c.sync.new.self c.take_sync_floor-floor.new.self)) c.self.view_is
     (asks_told c.self.invariant.consistent refl refl refl c.take_sync_floor-floor.result c.assignments.result.now c.sync.new.self c.take_sync_floor-floor.new.self
     c.take_sync_floor-floor.ensures.floor (c.assignments.ensures.decisions ∙ ap (λ t. decisions_of t.entries) c.take_sync_floor-floor.ensures.trail)
     c.sync.ensures.walks c.sync.ensures.owed c.sync.ensures.owed_still)
 
-pub returns-clause-asked : goal.returns-clause-asked
-returns-clause-asked g c =
-    subst (λ (k : Kept g.row.D.Denot g.row.D-NameId.Denot g.row.D-SolvableId.Denot g.row.D-NameId-Scores.Denot). AsksOnce (store_of (given g) g.D.NameId.Scores.IdMap.value_at k) k.asked (asked_of c.next_decision.new.self c.take_sync_floor-floor.new.self)) c.self.view_is
+pub returns-clause-queue_state : goal.returns-clause-queue_state
+returns-clause-queue_state g c =
+    subst (λ (k : StoreState g.row.D.Denot g.row.D-NameId.Denot g.row.D-SolvableId.Denot g.row.D-NameId-Scores.Denot). WalksEachOnce (store_of (given g) g.D.NameId.Scores.IdMap.value_at k) k.queue_state (queue_state_of c.next_decision.new.self c.take_sync_floor-floor.new.self)) c.self.view_is
     (asks_walked c.self.invariant.consistent refl refl refl c.sync.new.self c.next_decision.new.self c.take_sync_floor-floor.new.self c.take_sync_floor-floor.new.self
     c.new-reader.result.walked c.next_decision.new.reader.walked
     (asks_told c.self.invariant.consistent refl refl refl c.take_sync_floor-floor.result c.assignments.result.now c.sync.new.self c.take_sync_floor-floor.new.self
@@ -145,8 +145,8 @@ returns-clause-asked g c =
     c.sync.ensures.walks c.sync.ensures.owed c.sync.ensures.owed_still)
     c.sync.ensures.walks c.next_decision.ensures.walks c.next_decision.ensures.owed)
 
-pub returns-clause-told : goal.returns-clause-told
-returns-clause-told g c =
-    subst (λ (k : Kept g.row.D.Denot g.row.D-NameId.Denot g.row.D-SolvableId.Denot g.row.D-NameId-Scores.Denot). OnOk c.next_decision.result (IsTold (store_of (given g) g.D.NameId.Scores.IdMap.value_at k).trail (asked_of c.next_decision.new.self c.take_sync_floor-floor.new.self))) c.self.view_is
+pub returns-clause-in_sync : goal.returns-clause-in_sync
+returns-clause-in_sync g c =
+    subst (λ (k : StoreState g.row.D.Denot g.row.D-NameId.Denot g.row.D-SolvableId.Denot g.row.D-NameId-Scores.Denot). OnOk c.next_decision.result (HasSynced (store_of (given g) g.D.NameId.Scores.IdMap.value_at k).trail (queue_state_of c.next_decision.new.self c.take_sync_floor-floor.new.self))) c.self.view_is
     (on_any c.next_decision.result (told_of c.self.invariant.consistent refl refl refl c.assignments.result.now c.sync.new.self c.next_decision.new.self c.take_sync_floor-floor.new.self
     c.take_sync_floor-floor.ensures.trail c.assignments.ensures.decisions c.in_ok-sync.ensures.ok c.next_decision.ensures.unchanged.synced))

@@ -16,12 +16,12 @@ use Rattle.resolvo_queue.specs.Queue.{IsRegistered, StandsOn}
 use Rattle.resolvo_queue.specs.declared.requires_clause.RequiresClause.{RequiresClause}
 use Rattle.resolvo_queue.specs.References.{references}
 use Rattle.resolvo_store.specs.Answers.{added}
-use Rattle.resolvo_store.specs.Asked.{asked_of}
+use Rattle.resolvo_store.specs.QueueState.{queue_state_of}
 use Rattle.resolvo_store.specs.Command.{Requires, Refused}
 use Rattle.resolvo_store.specs.Lists.{HasMarks}
 use Rattle.resolvo_store.specs.Step.{Step}
 use Rattle.resolvo_store.specs.Walks.{OwesFirst}
-use Rattle.resolvo_store.specs.Store.{Kept, Provider, store_of, gathered, kept_literals, values}
+use Rattle.resolvo_store.specs.Store.{StoreState, Provider, store_of, gathered, stored_of, values}
 use Rattle.resolvo_store.proofs.AddingLemmas.{as_asked, step_foreseen, step_registered, first_of_requires, first_of_unknown, first_of_unloaded, first_of_negating, first_of_full, all_known_is, each_known}
 use Rattle.resolvo_store.proofs.AskingLemmas.{condition_seen}
 use Rattle.resolvo_store.proofs.CallerLaws.{store_in}
@@ -48,7 +48,7 @@ returns-then-not-knows_required-clause-step g c =
     let st = store_in c.self.invariant.consistent.sound in
     let known_is = subst (λ p. c.knows_required.result ≡ (nat_lt parent (length inside.variables) && (knows_requirement (g.D.Interner.universe p) r && option_map_or (λ x. nat_lt x (length inside.disjunctions)) d true))) c.provider-provider.ensures.provider c.knows_required.ensures
     ∙ all_known_is st parent r d (length inside.disjunctions) (sym (length_disjunctions inside.disjunctions)) in
-    subst (λ (kept : Kept g.row.D.Denot g.row.D-NameId.Denot g.row.D-SolvableId.Denot g.row.D-NameId-Scores.Denot). let now = store_of (given g) g.D.NameId.Scores.IdMap.value_at kept in Step now (Requires parent r d) (Refused UnknownId) now) c.self.view_is
+    subst (λ (kept : StoreState g.row.D.Denot g.row.D-NameId.Denot g.row.D-SolvableId.Denot g.row.D-NameId-Scores.Denot). let now = store_of (given g) g.D.NameId.Scores.IdMap.value_at kept in Step now (Requires parent r d) (Refused UnknownId) now) c.self.view_is
     (step_foreseen st (Requires parent r d) UnknownId (first_of_unknown st parent r d (sym known_is ∙ c.if-not-knows_required.true)))
 
 pub returns-then-negates-clause-step : goal.returns-then-negates-clause-step
@@ -63,10 +63,10 @@ returns-then-negates-clause-step g c =
     let known = sym known_is ∙ c.if-not-knows_required.false in
     let found = sym c.lists.ensures ∙ ap (option_map (λ l. items_of l.now)) c.in-Some.is in
     let loaded = ap is_some found in
-    let k = kept_literals st in
+    let k = stored_of st in
     let seen = condition_seen st.provider.universe inside.disjunctions k.learnt k.lists d in
     let apart = ap (is_literal_in (Neg parent)) (sym seen ∙ sym c.literals_of-literals.ensures) ∙ sym c.negates.ensures ∙ c.if-negates.true in
-    subst (λ (kept : Kept g.row.D.Denot g.row.D-NameId.Denot g.row.D-SolvableId.Denot g.row.D-NameId-Scores.Denot). let now = store_of (given g) g.D.NameId.Scores.IdMap.value_at kept in Step now (Requires parent r d) (Refused NegatesParent) now) c.self.view_is
+    subst (λ (kept : StoreState g.row.D.Denot g.row.D-NameId.Denot g.row.D-SolvableId.Denot g.row.D-NameId-Scores.Denot). let now = store_of (given g) g.D.NameId.Scores.IdMap.value_at kept in Step now (Requires parent r d) (Refused NegatesParent) now) c.self.view_is
     (step_foreseen st (Requires parent r d) NegatesParent (first_of_negating st parent r d known loaded apart))
 
 pub returns-then-is_full-clause-step : goal.returns-then-is_full-clause-step
@@ -81,18 +81,18 @@ returns-then-is_full-clause-step g c =
     let known = sym known_is ∙ c.if-not-knows_required.false in
     let found = sym c.lists.ensures ∙ ap (option_map (λ l. items_of l.now)) c.in-Some.is in
     let loaded = ap is_some found in
-    let k = kept_literals st in
+    let k = stored_of st in
     let seen = condition_seen st.provider.universe inside.disjunctions k.learnt k.lists d in
     let apart = ap (is_literal_in (Neg parent)) (sym seen ∙ sym c.literals_of-literals.ensures) ∙ sym c.negates.ensures ∙ c.if-negates.false in
     let full : nat_le (2 ^ 32 - 1) (length inside.queue.clauses) ≡ true = (let iff = c.is_full.ensures in let test = c.if-is_full.true in grind (arith, nat_tests, iff, test)) in
-    subst (λ (kept : Kept g.row.D.Denot g.row.D-NameId.Denot g.row.D-SolvableId.Denot g.row.D-NameId-Scores.Denot). let now = store_of (given g) g.D.NameId.Scores.IdMap.value_at kept in Step now (Requires parent r d) (Refused TooManyClauses) now) c.self.view_is
+    subst (λ (kept : StoreState g.row.D.Denot g.row.D-NameId.Denot g.row.D-SolvableId.Denot g.row.D-NameId-Scores.Denot). let now = store_of (given g) g.D.NameId.Scores.IdMap.value_at kept in Step now (Requires parent r d) (Refused TooManyClauses) now) c.self.view_is
     (step_foreseen st (Requires parent r d) TooManyClauses (first_of_full st parent r d known loaded apart full))
 
 pub register-answer-requires-clause-two : goal.register-answer-requires-clause-two
 register-answer-requires-clause-two g c =
     let d = c.args.condition in
     let st = store_in c.self.invariant.consistent.sound in
-    let k = kept_literals st in
+    let k = stored_of st in
     let made = c.required_by-required in
     let seen = condition_seen st.provider.universe c.self.inside.disjunctions k.learnt k.lists d in
     let found = sym c.lists.ensures ∙ ap (option_map (λ l. items_of l.now)) c.in-Some.is in
@@ -115,18 +115,18 @@ invariant_of-self g c =
     let known = sym known_is ∙ c.if-not-knows_required.false in
     let found = sym c.lists.ensures ∙ ap (option_map (λ l. items_of l.now)) c.in-Some.is in
     let loaded = ap is_some found in
-    let k = kept_literals st in
+    let k = stored_of st in
     let seen = condition_seen st.provider.universe inside.disjunctions k.learnt k.lists d in
     let made = c.required_by-required in
     let first = made.ensures.kept k (sym seen ∙ sym c.literals_of-literals.ensures) (ap (λ o. unwrap_or o []) found ∙ ap (map (λ l. l.items)) (sym c.as_slice.ensures.value)) in
     let each = each_known st parent r d known in
     let stands = subst (λ p. StandsOn (references (g.D.Interner.universe p) inside.loaded inside.disjunctions) c.register-answer.new.queue) c.provider-provider.ensures.provider
     (c.register-answer.ensures.stands
-    (subst (λ p. StandsOn (references (g.D.Interner.universe p) inside.loaded inside.disjunctions) inside.queue) (sym c.provider-provider.ensures.provider) c.self.invariant.consistent.may_ask.stands)) in
+    (subst (λ p. StandsOn (references (g.D.Interner.universe p) inside.loaded inside.disjunctions) inside.queue) (sym c.provider-provider.ensures.provider) c.self.invariant.consistent.may_decide.stands)) in
     let one : RequiresClause = record { parent = parent; requirement = r; condition = d; clause_id = length inside.clauses.clauses } in
     let registered = subst (λ p. let u = g.D.Interner.universe p in OnOk c.register-answer.result (IsRegistered g.D.NameId.Set.IdSet.has one (map u.set_name (sets_of u r)) inside.queue c.register-answer.new.queue)) c.provider-provider.ensures.provider
-    (as_asked (λ (p : ℕ) (q : Requirement) (x : Option ℕ). let u = g.D.Interner.universe c.provider-provider.result.now in let asked : RequiresClause = record { parent = p; requirement = q; condition = x; clause_id = length inside.clauses.clauses } in
-    OnOk c.register-answer.result (IsRegistered g.D.NameId.Set.IdSet.has asked (map u.set_name (sets_of u q)) inside.queue c.register-answer.new.queue))
+    (as_asked (λ (p : ℕ) (q : Requirement) (x : Option ℕ). let u = g.D.Interner.universe c.provider-provider.result.now in let queue_state : RequiresClause = record { parent = p; requirement = q; condition = x; clause_id = length inside.clauses.clauses } in
+    OnOk c.register-answer.result (IsRegistered g.D.NameId.Set.IdSet.has queue_state (map u.set_name (sets_of u q)) inside.queue c.register-answer.new.queue))
     c.required_by-required.ensures.parent c.required_by-required.ensures.requirement c.required_by-required.ensures.condition c.register-answer.ensures.registered) in
     let call = c.register-answer in
     let before = c.len-first.ensures.value ∙ sym c.self.invariant.consistent.sound.watched in
@@ -151,7 +151,7 @@ returns-clause-step g c =
     let known = sym known_is ∙ c.if-not-knows_required.false in
     let found = sym c.lists.ensures ∙ ap (option_map (λ l. items_of l.now)) c.in-Some.is in
     let loaded = ap is_some found in
-    let k = kept_literals st in
+    let k = stored_of st in
     let seen = condition_seen st.provider.universe inside.disjunctions k.learnt k.lists d in
     let made = c.required_by-required in
     let first = made.ensures.kept k (sym seen ∙ sym c.literals_of-literals.ensures) (ap (λ o. unwrap_or o []) found ∙ ap (map (λ l. l.items)) (sym c.as_slice.ensures.value)) in
@@ -159,8 +159,8 @@ returns-clause-step g c =
     let room : nat_le (2 ^ 32 - 1) (length inside.queue.clauses) ≡ false = (let iff = c.is_full.ensures in let not_full = c.if-is_full.false in grind (arith, nat_tests, iff, not_full)) in
     step_registered (given g) g.D.NameId.Scores.IdMap.value_at added parent r d (literals_watched made.result.watches) made.result.is_conflict c.register-answer.result (contents c.register-answer.new.clauses) c.register-answer.new.queue.clauses
     c.self.view_is made.ensures.clause (first_of_requires st parent r d known loaded apart room) first.0 first.1
-    c.register-answer.ensures.added c.register-answer.ensures.listed (on_ok c.register-answer.result (λ more. more.clauses) (as_asked (λ (p : ℕ) (q : Requirement) (x : Option ℕ). let u = g.D.Interner.universe c.provider-provider.result.now in let asked : RequiresClause = record { parent = p; requirement = q; condition = x; clause_id = length inside.clauses.clauses } in
-    OnOk c.register-answer.result (IsRegistered g.D.NameId.Set.IdSet.has asked (map u.set_name (sets_of u q)) inside.queue c.register-answer.new.queue))
+    c.register-answer.ensures.added c.register-answer.ensures.listed (on_ok c.register-answer.result (λ more. more.clauses) (as_asked (λ (p : ℕ) (q : Requirement) (x : Option ℕ). let u = g.D.Interner.universe c.provider-provider.result.now in let queue_state : RequiresClause = record { parent = p; requirement = q; condition = x; clause_id = length inside.clauses.clauses } in
+    OnOk c.register-answer.result (IsRegistered g.D.NameId.Set.IdSet.has queue_state (map u.set_name (sets_of u q)) inside.queue c.register-answer.new.queue))
     c.required_by-required.ensures.parent c.required_by-required.ensures.requirement c.required_by-required.ensures.condition c.register-answer.ensures.registered)) c.register-answer.ensures.unadded
     (on_err c.register-answer.result (λ same. same.clauses.clauses) c.register-answer.ensures.unregistered)
     c.register-answer.ensures.refused c.register-answer.ensures.ids_out
@@ -168,24 +168,24 @@ returns-clause-step g c =
 pub returns-clause-provider : goal.returns-clause-provider
 returns-clause-provider g c = grind (arith, common_steps)
 
-pub returns-then-not-knows_required-clause-asked : goal.returns-then-not-knows_required-clause-asked
-returns-then-not-knows_required-clause-asked g c = owes_nothing c.args.requirement c.args.self.now.asked
+pub returns-then-not-knows_required-clause-queue_state : goal.returns-then-not-knows_required-clause-queue_state
+returns-then-not-knows_required-clause-queue_state g c = owes_nothing c.args.requirement c.args.self.now.queue_state
 
-pub returns-then-negates-clause-asked : goal.returns-then-negates-clause-asked
-returns-then-negates-clause-asked g c = owes_nothing c.args.requirement c.args.self.now.asked
+pub returns-then-negates-clause-queue_state : goal.returns-then-negates-clause-queue_state
+returns-then-negates-clause-queue_state g c = owes_nothing c.args.requirement c.args.self.now.queue_state
 
-pub returns-then-is_full-clause-asked : goal.returns-then-is_full-clause-asked
-returns-then-is_full-clause-asked g c = owes_nothing c.args.requirement c.args.self.now.asked
+pub returns-then-is_full-clause-queue_state : goal.returns-then-is_full-clause-queue_state
+returns-then-is_full-clause-queue_state g c = owes_nothing c.args.requirement c.args.self.now.queue_state
 
-pub returns-clause-asked : goal.returns-clause-asked
-returns-clause-asked g c =
+pub returns-clause-queue_state : goal.returns-clause-queue_state
+returns-clause-queue_state g c =
     let inside = c.self.inside in
     let one : RequiresClause = record { parent = c.args.parent; requirement = c.args.requirement; condition = c.args.condition; clause_id = length inside.clauses.clauses } in
-    subst (λ (k : Kept g.row.D.Denot g.row.D-NameId.Denot g.row.D-SolvableId.Denot g.row.D-NameId-Scores.Denot). OwesFirst c.args.requirement k.asked (asked_of c.register-answer.new.queue inside.trail)) c.self.view_is
+    subst (λ (k : StoreState g.row.D.Denot g.row.D-NameId.Denot g.row.D-SolvableId.Denot g.row.D-NameId-Scores.Denot). OwesFirst c.args.requirement k.queue_state (queue_state_of c.register-answer.new.queue inside.trail)) c.self.view_is
     (owes_registered inside.queue c.register-answer.new.queue inside.trail g.D.NameId.Set.IdSet.has c.register-answer.result one
     (map (g.D.Interner.universe c.provider-provider.result.now).set_name (sets_of (g.D.Interner.universe c.provider-provider.result.now) c.args.requirement))
-    (as_asked (λ (p : ℕ) (q : Requirement) (x : Option ℕ). let u = g.D.Interner.universe c.provider-provider.result.now in let asked : RequiresClause = record { parent = p; requirement = q; condition = x; clause_id = length inside.clauses.clauses } in
-    OnOk c.register-answer.result (IsRegistered g.D.NameId.Set.IdSet.has asked (map u.set_name (sets_of u q)) inside.queue c.register-answer.new.queue))
+    (as_asked (λ (p : ℕ) (q : Requirement) (x : Option ℕ). let u = g.D.Interner.universe c.provider-provider.result.now in let queue_state : RequiresClause = record { parent = p; requirement = q; condition = x; clause_id = length inside.clauses.clauses } in
+    OnOk c.register-answer.result (IsRegistered g.D.NameId.Set.IdSet.has queue_state (map u.set_name (sets_of u q)) inside.queue c.register-answer.new.queue))
     c.required_by-required.ensures.parent c.required_by-required.ensures.requirement c.required_by-required.ensures.condition c.register-answer.ensures.registered)
     c.register-answer.ensures.unregistered c.register-answer.ensures.walks
     (subst (λ q. (x : Requirement) → (owed c.register-answer.new.queue x ≡ owed inside.queue x) ⊎ ((x ≡ q) × (owed inside.queue x ≡ 0) × (owed c.register-answer.new.queue x ≡ 1)))

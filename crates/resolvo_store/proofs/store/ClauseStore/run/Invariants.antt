@@ -1,11 +1,11 @@
 use Rattle.std.proofs.Common.{◌≡◌, ◌≤◌, take, length, map, vec_len, vec_capacity}
 use Rattle.resolvo_store.specs.Command.{command_of, reply_of}
-use Rattle.resolvo_store.specs.Store.{Store, Kept, store_of, gathered}
+use Rattle.resolvo_store.specs.Store.{Store, StoreState, store_of, gathered}
 use Rattle.resolvo_store.specs.Step.{Run}
 use Rattle.resolvo_store.proofs.store.ClauseStore.run.Given as goal
 
 -- the abstract store
-abbrev pub store : (g : goal.Over) → Kept g.row.D.Denot g.row.D-NameId.Denot g.row.D-SolvableId.Denot g.row.D-NameId-Scores.Denot → Store g.row.D-NameId.Denot g.row.D-SolvableId.Denot
+abbrev pub store : (g : goal.Over) → StoreState g.row.D.Denot g.row.D-NameId.Denot g.row.D-SolvableId.Denot g.row.D-NameId-Scores.Denot → Store g.row.D-NameId.Denot g.row.D-SolvableId.Denot
 store g = store_of (gathered g.D.NameId.PartialEq.eq g.D.SolvableId.PartialEq.eq g.D.NameId.Slots.IdMap.is_too_large g.D.SolvableId.Slots.IdMap.is_too_large g.D.SolvableId.Set.IdSet.is_too_large g.D.NameId.SolverId.are_many g.D.Interner.universe g.D.DependencyProvider.answers) g.D.NameId.Scores.IdMap.value_at
 
 abbrev pub invariant-loop-command : goal.invariant-loop-command

@@ -1,7 +1,7 @@
 use Rattle.std.proofs.Common.{subst}
 use Rattle.resolvo_store.specs.Command.{command_of, reply_of}
 use Rattle.resolvo_store.specs.Sound.{IsSound}
-use Rattle.resolvo_store.specs.Store.{Store, Provider, Kept, store_of, gathered}
+use Rattle.resolvo_store.specs.Store.{Store, Provider, StoreState, store_of, gathered}
 use Rattle.resolvo_store.proofs.KnownLemmas.{IsLawful}
 use Rattle.resolvo_store.proofs.CallerLaws.{store_in}
 use Rattle.resolvo_store.proofs.ForbiddingLaws.{forbids_two}
@@ -26,7 +26,7 @@ lawful g p = record {
 }
 
 -- the abstract store
-abbrev store : (g : Over) → Kept g.row.D.Denot g.row.D-NameId.Denot g.row.D-SolvableId.Denot g.row.D-NameId-Scores.Denot → Store g.row.D-NameId.Denot g.row.D-SolvableId.Denot
+abbrev store : (g : Over) → StoreState g.row.D.Denot g.row.D-NameId.Denot g.row.D-SolvableId.Denot g.row.D-NameId-Scores.Denot → Store g.row.D-NameId.Denot g.row.D-SolvableId.Denot
 store g = store_of (given g) g.D.NameId.Scores.IdMap.value_at
 
 pub returns-clause-refused : goal.returns-clause-refused

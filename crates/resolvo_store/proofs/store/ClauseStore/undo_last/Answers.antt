@@ -1,11 +1,11 @@
 use Rattle.std.proofs.Common.{◌≡◌, ◌∙◌, ◌-◌, length, ap, arith, refl, subst, sym}
 use Rattle.std.proofs.lemmas.Grind.{common_steps}
 use Rattle.decisions.specs.Trail.{Trail, undo_last}
-use Rattle.resolvo_store.specs.Asked.{asked_of}
+use Rattle.resolvo_store.specs.QueueState.{queue_state_of}
 use Rattle.resolvo_store.specs.Counted.{AreCounted}
 use Rattle.resolvo_store.proofs.CountedLemmas.{keeps_counted}
 use Rattle.resolvo_store.specs.Lists.{HasMarks}
-use Rattle.resolvo_store.specs.Store.{Kept}
+use Rattle.resolvo_store.specs.Store.{StoreState}
 use Rattle.resolvo_store.specs.Walks.{taken_back}
 use Rattle.resolvo_store.proofs.CallerLaws.{store_in}
 use Rattle.resolvo_store.proofs.InvariantLemmas.{after_trail}
@@ -23,7 +23,7 @@ invariant_of-self g c =
     let st = store_in c.self.invariant.consistent.sound in
     record {
       consistent = after_trail c.self.invariant.consistent (undo_last old) (IsSound-without_newest _ c.self.invariant.consistent.sound)
-          (in_step-undo_last old c.self.invariant.consistent.may_ask.in_step) c.undo_last-last.ensures.trail;
+          (in_step-undo_last old c.self.invariant.consistent.may_decide.in_step) c.undo_last-last.ensures.trail;
       counted = subst (λ (t : Trail). AreCounted c.uncount_newest.new.self inside.queue.clauses t.entries inside.loaded inside.disjunctions) (sym c.undo_last-last.ensures.trail)
           (keeps_counted c.uncount_newest.ensures.known (c.uncount_newest.ensures.follows _) c.self.invariant.counted);
       marked = subst (HasMarks (record st { trail = new.entries; place = new.place })) (sym c.cut_to.ensures)
@@ -39,7 +39,7 @@ undo_last-last-requires g c = grind (arith, common_steps)
 pub returns-clause-step : goal.returns-clause-step
 returns-clause-step g c = grind (arith, common_steps)
 
-pub returns-clause-asked : goal.returns-clause-asked
-returns-clause-asked g c =
-    subst (λ (x : Trail). asked_of c.self.inside.queue x ≡ taken_back x.entries (asked_of c.self.inside.queue c.self.inside.trail)) (sym c.undo_last-last.ensures.trail) refl
-    ∙ ap (λ (k : Kept g.row.D.Denot g.row.D-NameId.Denot g.row.D-SolvableId.Denot g.row.D-NameId-Scores.Denot). taken_back c.undo_last-last.new.self.entries k.asked) c.self.view_is
+pub returns-clause-queue_state : goal.returns-clause-queue_state
+returns-clause-queue_state g c =
+    subst (λ (x : Trail). queue_state_of c.self.inside.queue x ≡ taken_back x.entries (queue_state_of c.self.inside.queue c.self.inside.trail)) (sym c.undo_last-last.ensures.trail) refl
+    ∙ ap (λ (k : StoreState g.row.D.Denot g.row.D-NameId.Denot g.row.D-SolvableId.Denot g.row.D-NameId-Scores.Denot). taken_back c.undo_last-last.new.self.entries k.queue_state) c.self.view_is

@@ -1,7 +1,7 @@
 use Rattle.std.proofs.Common.{◌≡◌, ◌∙◌, sym, ap, rules, Some, slice_get, option_map, []}
 use Rattle.std.specs.Prelude.{find, is_some, unwrap_or}
 use Rattle.clauses.specs.Clauses.{literals_of, same_literal}
-use Rattle.clauses.specs.Stored.{kept_in}
+use Rattle.clauses.specs.Stored.{stored_in}
 use Rattle.watch_map.specs.ClauseList.{contents}
 use Rattle.watch_map.specs.Watching.{is_literal_in}
 use Rattle.watch_map.proofs.LiteralLists.{found_any}
@@ -14,10 +14,10 @@ returns g c =
     let loaded = c.args.loaded.now in
     let disjunctions = c.args.disjunctions.now in
     let list = contents c.args.clauses.now in
-    let kept = kept_in c.learnt-learnt.result.now loaded disjunctions in
-    let now = record (kept_in [] loaded disjunctions) { learnt = list.learnt } in
+    let kept = stored_in c.learnt-learnt.result.now loaded disjunctions in
+    let now = record (stored_in [] loaded disjunctions) { learnt = list.learnt } in
     let there : slice_get list.clauses c.args.clause ≡ Some clause = sym c.get.ensures ∙ c.in-Some.is in
     let found : c.find_literal-found.result ≡ find (same_literal l) (literals_of kept clause) = c.find_literal-found.ensures.tested (same_literal l) (λ x b k. search rules) in
-    let same = ap (λ ls. record (kept_in [] loaded disjunctions) { learnt = ls }) c.learnt-learnt.ensures in
+    let same = ap (λ ls. record (stored_in [] loaded disjunctions) { learnt = ls }) c.learnt-learnt.ensures in
     c.is_some.ensures ∙ ap is_some found ∙ found_any (same_literal l) (literals_of kept clause) ∙ ap (λ k. is_literal_in l (literals_of k clause)) same
     ∙ ap (λ o. is_literal_in l (unwrap_or (option_map (literals_of now) o) [])) (sym there)

@@ -1,9 +1,9 @@
 use Rattle.std.proofs.lemmas.Grind.{common_steps}
 use Rattle.std.proofs.Common.{◌≡◌, ◌∙◌, true, false, ap, subst, sym, true≢false, inr, arith}
 use Rattle.providers.specs.Provider.{matching}
-use Rattle.solver_cache.specs.Cache.{is_kept, is_set_asked, same_set}
+use Rattle.solver_cache.specs.Cache.{is_cached, is_set_queried, same_set}
 use Rattle.solver_cache.specs.Functions.{Provider, gathered}
-use Rattle.solver_cache.specs.Questions.{IsLater, IsAsked}
+use Rattle.solver_cache.specs.Questions.{IsLater, IsQueried}
 use Rattle.solver_cache.specs.declared.error.CacheError.TheVariants.{Store}
 use Rattle.solver_cache.proofs.CacheLemmas.{found_matching, handed_on, later_same, more_matching, none_of, once_kept, once_new, right_matched, value_last}
 use Rattle.solver_cache.proofs.FilteringLemmas.{asked_matching, later_matching, memory_refused}
@@ -24,16 +24,16 @@ returns-in-Some-clause-answered g c =
       matched = once_kept _ _ _ (sym c.in-Some.ensures.found);
       list = found.0;
       later = later_same _ _;
-      asked = found.1;
+      queried = found.1;
     })
 
 -- only what isn't kept is refused
 
-pub returns-in_err-found-in-None-clause-kept : goal.returns-in_err-found-in-None-clause-kept
-returns-in_err-found-in-None-clause-kept g c = λ kept. absurd (true≢false (sym kept ∙ rw (sym c.self.view_is) (sym c.in-None.ensures.found)))
+pub returns-in_err-found-in-None-clause-cached : goal.returns-in_err-found-in-None-clause-cached
+returns-in_err-found-in-None-clause-cached g c = λ cached. absurd (true≢false (sym cached ∙ rw (sym c.self.view_is) (sym c.in-None.ensures.found)))
 
-pub returns-in_err-place-in-None-clause-kept : goal.returns-in_err-place-in-None-clause-kept
-returns-in_err-place-in-None-clause-kept g c = λ kept. absurd (true≢false (sym kept ∙ rw (sym c.self.view_is) (sym c.in-None.ensures.found)))
+pub returns-in_err-place-in-None-clause-cached : goal.returns-in_err-place-in-None-clause-cached
+returns-in_err-place-in-None-clause-cached g c = λ cached. absurd (true≢false (sym cached ∙ rw (sym c.self.view_is) (sym c.in-None.ensures.found)))
 
 -- where the list can't be kept
 
@@ -45,8 +45,8 @@ returns-in_err-place-in-None-clause-refused g c =
     let has = g.D.SolvableId.Set.IdSet.has in
     handed_on _ c.from_residual-in_err-place-in-None.result (Store c.in_err-place-in-None.field-0.0) c.from_residual-in_err-place-in-None.ensures.1 (record {
       reason = memory_refused _ c.in_err-place-in-None.field-0.0 c.in_err-place-in-None.ensures.memory;
-      left = rw c.in_err-place-in-None.ensures.err (inr (subst (λ v. IsAsked p may has old (p.universe.set_name c.args.set) v)
-          (sym c.self-in-None.view_is) c.in_ok-found-in-None.ensures.package.asked));
+      left = rw c.in_err-place-in-None.ensures.err (inr (subst (λ v. IsQueried p may has old (p.universe.set_name c.args.set) v)
+          (sym c.self-in-None.view_is) c.in_ok-found-in-None.ensures.package.queried));
       later = rw c.in_err-place-in-None.ensures.err (subst (λ v. IsLater has old v) (sym c.self-in-None.view_is) c.in_ok-found-in-None.ensures.package.later);
     })
 
@@ -56,12 +56,12 @@ pub insert-requires : goal.insert-requires
 insert-requires g c =
     let set = c.args.set in
     let old = c.args.self.now in
-    let new : is_kept (same_set set) old.matching ≡ false = rw (sym c.self.view_is) (sym c.in-None.ensures.found) in
+    let new : is_cached (same_set set) old.matching ≡ false = rw (sym c.self.view_is) (sym c.in-None.ensures.found) in
     let p = provided g old.provider in
-    none_of _ (ap (λ v. is_kept (same_set set) v.matching) c.self-in-None.view_is
-    ∙ ap (is_kept (same_set set))
+    none_of _ (ap (λ v. is_cached (same_set set) v.matching) c.self-in-None.view_is
+    ∙ ap (is_cached (same_set set))
     (asked_matching g.D.SolvableId.Set.IdSet.has p (g.D.DependencyProvider.may_answer old.provider)
-    (p.universe.set_name set) old c.filtered.new.self c.in_ok-found-in-None.ensures.package.asked) ∙ new)
+    (p.universe.set_name set) old c.filtered.new.self c.in_ok-found-in-None.ensures.package.queried) ∙ new)
 
 pub invariant_of-self-in-None : goal.invariant_of-self-in-None
 invariant_of-self-in-None g c =
@@ -69,11 +69,11 @@ invariant_of-self-in-None g c =
     let q = c.self-in-None.inside.provider in
     let mid = c.filtered.new.self in
     let same : q ≡ c.args.self.now.provider = ap (λ v. v.provider) c.self-in-None.view_is ∙ c.in_ok-found-in-None.ensures.package.later.provider in
-    let asked : is_set_asked (provided g q) mid set ≡ true =
-    ap (λ r. is_set_asked (provided g r) mid set) same ∙ c.in_ok-found-in-None.ensures.package.asked_now in
+    let queried : is_set_queried (provided g q) mid set ≡ true =
+    ap (λ r. is_set_queried (provided g r) mid set) same ∙ c.in_ok-found-in-None.ensures.package.queried_now in
     rw c.in_ok-place-in-None.ensures.ok (right_matched _ _ c.self-in-None.invariant set c.in_ok-found-in-None.found.items
     (c.in_ok-found-in-None.ensures.list ∙ ap (λ r. matching (provided g r).universe (provided g r).answers set) (sym same))
-    (ap (λ v. is_set_asked (provided g q) v set) c.self-in-None.view_is ∙ asked))
+    (ap (λ v. is_set_queried (provided g q) v set) c.self-in-None.view_is ∙ queried))
 
 pub returns-in_ok-place-in-None-clause-answered : goal.returns-in_ok-place-in-None-clause-answered
 returns-in_ok-place-in-None-clause-answered g c =
@@ -81,18 +81,18 @@ returns-in_ok-place-in-None-clause-answered g c =
     let set = c.args.set in
     let old = c.args.self.now in
     let found = c.in_ok-found-in-None.found.items in
-    let new : is_kept (same_set set) old.matching ≡ false = rw (sym c.self.view_is) (sym c.in-None.ensures.found) in
+    let new : is_cached (same_set set) old.matching ≡ false = rw (sym c.self.view_is) (sym c.in-None.ensures.found) in
     record {
       matched = once_new _ _ _ _ new (
         c.filtered.new.self,
-        c.in_ok-found-in-None.ensures.package.asked,
+        c.in_ok-found-in-None.ensures.package.queried,
         rw (c.in_ok-place-in-None.ensures.ok, sym c.in_ok-found-in-None.ensures.list) (more_matching _ _ c.self-in-None.view_is set found),
       );
       list = rw (c.in_ok-place-in-None.ensures.ok, c.in_ok-place-in-None.ensures.place, sym c.in_ok-found-in-None.ensures.list)
           (value_last c.self-in-None.inside.matching set found);
       later = rw c.in_ok-place-in-None.ensures.ok (later_matching has old _ set found
           (subst (λ v. IsLater has old v) (sym c.self-in-None.view_is) c.in_ok-found-in-None.ensures.package.later));
-      asked = ap (λ v. is_set_asked (provided g old.provider) v set) c.self-in-None.view_is ∙ c.in_ok-found-in-None.ensures.package.asked_now;
+      queried = ap (λ v. is_set_queried (provided g old.provider) v set) c.self-in-None.view_is ∙ c.in_ok-found-in-None.ensures.package.queried_now;
     }
 
 pub invariant_of-self : goal.invariant_of-self

@@ -4,7 +4,7 @@ use Rattle.std.specs.Map.{lookup}
 use Rattle.providers.specs.Provider.{sorted, favored_first}
 use Rattle.providers.specs.Requirement.{same_requirement}
 use Rattle.providers.specs.declared.requirement.Requirement.TheVariants.{Single}
-use Rattle.solver_cache.specs.Cache.{is_kept, is_set_asked}
+use Rattle.solver_cache.specs.Cache.{is_cached, is_set_queried}
 use Rattle.solver_cache.specs.Functions.{Provider, gathered}
 use Rattle.solver_cache.specs.Questions.{IsLater, IsMatched}
 use Rattle.solver_cache.specs.declared.error.CacheError.TheVariants.{Store}
@@ -24,30 +24,30 @@ provided g = gathered g.D.NameId.PartialEq.eq g.D.SolvableId.PartialEq.eq g.D.Na
 
 pub returns-in-Some-clause-answered : goal.returns-in-Some-clause-answered
 returns-in-Some-clause-answered g c =
-    let kept = c.self.inside.sorted in
+    let cached = c.self.inside.sorted in
     let alike = same_is (Single c.args.set) in
-    let is_there : is_kept (same_requirement (Single c.args.set)) kept ≡ true = ap (λ t. is_kept t kept) (sym alike) ∙ sym c.in-Some.ensures.found in
-    let found = found_single _ _ c.self.invariant c.args.set c.in-Some.place is_there (c.in-Some.ensures.list ∙ ap (λ t. lookup t kept) alike) in
+    let is_there : is_cached (same_requirement (Single c.args.set)) cached ≡ true = ap (λ t. is_cached t cached) (sym alike) ∙ sym c.in-Some.ensures.found in
+    let found = found_single _ _ c.self.invariant c.args.set c.in-Some.place is_there (c.in-Some.ensures.list ∙ ap (λ t. lookup t cached) alike) in
     rw (sym c.self.view_is) (record {
       sorted = once_kept _ _ _ is_there;
       list = found.0;
       later = later_same _ _;
-      asked = found.1;
+      queried = found.1;
     })
 
 -- only what isn't kept is refused
 
-pub returns-in_err-id-in-None-clause-kept : goal.returns-in_err-id-in-None-clause-kept
-returns-in_err-id-in-None-clause-kept g c = λ kept.
-    absurd (true≢false (sym kept ∙ rw (sym c.self.view_is) (not_kept (Single c.args.set) c.self.inside.sorted c.in-None.ensures.found)))
+pub returns-in_err-id-in-None-clause-cached : goal.returns-in_err-id-in-None-clause-cached
+returns-in_err-id-in-None-clause-cached g c = λ cached.
+    absurd (true≢false (sym cached ∙ rw (sym c.self.view_is) (not_kept (Single c.args.set) c.self.inside.sorted c.in-None.ensures.found)))
 
-pub returns-in_err-list-in-None-clause-kept : goal.returns-in_err-list-in-None-clause-kept
-returns-in_err-list-in-None-clause-kept g c = λ kept.
-    absurd (true≢false (sym kept ∙ rw (sym c.self.view_is) (not_kept (Single c.args.set) c.self.inside.sorted c.in-None.ensures.found)))
+pub returns-in_err-list-in-None-clause-cached : goal.returns-in_err-list-in-None-clause-cached
+returns-in_err-list-in-None-clause-cached g c = λ cached.
+    absurd (true≢false (sym cached ∙ rw (sym c.self.view_is) (not_kept (Single c.args.set) c.self.inside.sorted c.in-None.ensures.found)))
 
-pub returns-in_err-place-in-None-clause-kept : goal.returns-in_err-place-in-None-clause-kept
-returns-in_err-place-in-None-clause-kept g c = λ kept.
-    absurd (true≢false (sym kept ∙ rw (sym c.self.view_is) (not_kept (Single c.args.set) c.self.inside.sorted c.in-None.ensures.found)))
+pub returns-in_err-place-in-None-clause-cached : goal.returns-in_err-place-in-None-clause-cached
+returns-in_err-place-in-None-clause-cached g c = λ cached.
+    absurd (true≢false (sym cached ∙ rw (sym c.self.view_is) (not_kept (Single c.args.set) c.self.inside.sorted c.in-None.ensures.found)))
 
 -- what a refusal leaves
 
@@ -86,9 +86,9 @@ pub insert-requires : goal.insert-requires
 insert-requires g c =
     let r = Single c.args.set in
     let old = c.args.self.now in
-    let new : is_kept (same_requirement r) old.sorted ≡ false = rw (sym c.self.view_is) (not_kept r c.self.inside.sorted c.in-None.ensures.found) in
-    none_of _ (ap (λ t. is_kept t c.self-in-None.inside.sorted) (same_is r) ∙ ap (λ v. is_kept (same_requirement r) v.sorted) c.self-in-None.view_is
-    ∙ ap (is_kept (same_requirement r)) (matched_sorted g.D.SolvableId.Set.IdSet.has (provided g old.provider)
+    let new : is_cached (same_requirement r) old.sorted ≡ false = rw (sym c.self.view_is) (not_kept r c.self.inside.sorted c.in-None.ensures.found) in
+    none_of _ (ap (λ t. is_cached t c.self-in-None.inside.sorted) (same_is r) ∙ ap (λ v. is_cached (same_requirement r) v.sorted) c.self-in-None.view_is
+    ∙ ap (is_cached (same_requirement r)) (matched_sorted g.D.SolvableId.Set.IdSet.has (provided g old.provider)
     (g.D.DependencyProvider.may_answer old.provider) c.args.set old c.cache_matching_candidates.new.self
     c.in_ok-id-in-None.ensures.answered.matched) ∙ new)
 
@@ -112,10 +112,10 @@ invariant_of-self-in-None g c =
     let q = c.self-in-None.inside.provider in
     let mid = c.cache_matching_candidates.new.self in
     let same : q ≡ c.args.self.now.provider = ap (λ v. v.provider) c.self-in-None.view_is ∙ c.in_ok-id-in-None.ensures.answered.later.provider in
-    let asked : is_set_asked (provided g q) mid set ≡ true = ap (λ r. is_set_asked (provided g r) mid set) same ∙ c.in_ok-id-in-None.ensures.answered.asked in
+    let queried : is_set_queried (provided g q) mid set ≡ true = ap (λ r. is_set_queried (provided g r) mid set) same ∙ c.in_ok-id-in-None.ensures.answered.queried in
     rw c.in_ok-place-in-None.ensures.ok (right_single _ _ c.self-in-None.invariant set c.in_ok-list-in-None.list.items
     (in_order g c ∙ ap (λ r. sorted (provided g r).universe (provided g r).answers (provided g r).same_solvable set) (sym same))
-    (ap (λ v. is_set_asked (provided g q) v set) c.self-in-None.view_is ∙ asked))
+    (ap (λ v. is_set_queried (provided g q) v set) c.self-in-None.view_is ∙ queried))
 
 pub returns-in_ok-place-in-None-clause-answered : goal.returns-in_ok-place-in-None-clause-answered
 returns-in_ok-place-in-None-clause-answered g c =
@@ -125,7 +125,7 @@ returns-in_ok-place-in-None-clause-answered g c =
     let mid = c.cache_matching_candidates.new.self in
     let list = c.in_ok-list-in-None.list.items in
     let answered = c.in_ok-id-in-None.ensures.answered in
-    let new : is_kept (same_requirement r) old.sorted ≡ false = rw (sym c.self.view_is) (not_kept r c.self.inside.sorted c.in-None.ensures.found) in
+    let new : is_cached (same_requirement r) old.sorted ≡ false = rw (sym c.self.view_is) (not_kept r c.self.inside.sorted c.in-None.ensures.found) in
     record {
       sorted = once_new _ _ _ _ new (
         mid,
@@ -135,7 +135,7 @@ returns-in_ok-place-in-None-clause-answered g c =
       list = rw (c.in_ok-place-in-None.ensures.ok, c.in_ok-place-in-None.ensures.place)
           (value_last c.self-in-None.inside.sorted r list ∙ ap Some (in_order g c));
       later = rw c.in_ok-place-in-None.ensures.ok (later_sorted has old _ r list (subst (λ v. IsLater has old v) (sym c.self-in-None.view_is) answered.later));
-      asked = grind (arith, common_steps);
+      queried = grind (arith, common_steps);
     }
 
 pub favored-favored-requires-clause-known : goal.favored-favored-requires-clause-known

@@ -1,6 +1,6 @@
 use Rattle.std.proofs.lemmas.Grind.{common_steps}
 use Rattle.std.proofs.Common.{◌∙◌, sym, refl, ap, arith}
-use Rattle.solver_cache.specs.Cache.{is_kept}
+use Rattle.solver_cache.specs.Cache.{is_cached}
 use Rattle.solver_cache.proofs.CacheLemmas.{right_fetched, once_new, value_last, handed_on, refused_unasked}
 use Rattle.solver_cache.specs.declared.error.CacheError.TheVariants.{Store}
 use Rattle.solver_cache.proofs.cache.SolverCache.fetch.Goals as goal
@@ -20,7 +20,7 @@ pub returns-in_err-insert-clause-refused : goal.returns-in_err-insert-clause-ref
 returns-in_err-insert-clause-refused g c =
     handed_on _ c.from_residual-in_err-insert.result (Store c.in_err-insert.field-0.0) c.from_residual-in_err-insert.ensures.1 (record {
       reason = rw (sym c.self.view_is) (refused_unasked _ _ c.in_err-insert.field-0.0
-          (ap (λ v. is_kept (g.D.SolvableId.PartialEq.eq c.args.solvable) v.dependencies) c.self.view_is ∙ c.requires.new)
+          (ap (λ v. is_cached (g.D.SolvableId.PartialEq.eq c.args.solvable) v.dependencies) c.self.view_is ∙ c.requires.new)
           c.in_err-insert.ensures.refused);
       left = grind (arith, common_steps);
     })

@@ -2,8 +2,8 @@ use Rattle.std.proofs.lemmas.Grind.{common_steps}
 use Rattle.std.proofs.Common.{◌≡◌, ◌∙◌, ap, subst, sym, inl, inr, arith}
 use Rattle.providers.specs.Provider.{filtered}
 use Rattle.solver_cache.specs.Functions.{Provider, gathered}
-use Rattle.solver_cache.specs.Questions.{IsAsked}
-use Rattle.solver_cache.specs.Unanswered.{IsUnasked}
+use Rattle.solver_cache.specs.Questions.{IsQueried}
+use Rattle.solver_cache.specs.Unanswered.{IsUnanswered}
 use Rattle.solver_cache.specs.declared.error.CacheError.TheVariants.{Store}
 use Rattle.solver_cache.proofs.CacheLemmas.{handed_on, same_answer}
 use Rattle.solver_cache.proofs.cache.SolverCache.filtered.Given.{Over}
@@ -31,10 +31,10 @@ returns-clause-package g c =
     let name : c.version_set_name-name.result ≡ p.universe.set_name c.args.set =
     c.version_set_name-name.ensures ∙ ap (λ v. (g.D.Interner.universe v.provider).set_name c.args.set) c.self.view_is in
     record {
-      asked = subst (λ n. IsAsked p (g.D.DependencyProvider.may_answer old.provider) g.D.SolvableId.Set.IdSet.has old n
-          c.cache_candidates.new.self) name c.in_ok-id.ensures.answered.asked;
+      queried = subst (λ n. IsQueried p (g.D.DependencyProvider.may_answer old.provider) g.D.SolvableId.Set.IdSet.has old n
+          c.cache_candidates.new.self) name c.in_ok-id.ensures.answered.queried;
       later = c.in_ok-id.ensures.answered.later;
-      asked_now = grind (arith, common_steps);
+      queried_now = grind (arith, common_steps);
     }
 
 pub returns-clause-list : goal.returns-clause-list
@@ -60,7 +60,7 @@ returns-in_err-id-clause-refused g c =
     c.version_set_name-name.ensures ∙ ap (λ v. (g.D.Interner.universe v.provider).set_name c.args.set) c.self.view_is in
     handed_on _ c.from_residual.result c.in_err-id.field-0.0 c.from_residual.ensures.1 (record {
       reason = rw (sym name) refused.reason;
-      left = inl (subst (λ n. IsUnasked p (g.D.DependencyProvider.may_answer old.provider) g.D.SolvableId.Set.IdSet.has old n
+      left = inl (subst (λ n. IsUnanswered p (g.D.DependencyProvider.may_answer old.provider) g.D.SolvableId.Set.IdSet.has old n
           c.cache_candidates.new.self) name refused.left);
       later = refused.later;
     })
@@ -75,7 +75,7 @@ returns-in_err-filter_candidates-clause-refused g c =
     handed_on _ c.from_residual-in_err-filter_candidates.result
     (Store c.in_err-filter_candidates.field-0.0) c.from_residual-in_err-filter_candidates.ensures.1 (record {
       reason = grind (arith, common_steps);
-      left = inr (subst (λ n. IsAsked p (g.D.DependencyProvider.may_answer old.provider) g.D.SolvableId.Set.IdSet.has old n
-          c.cache_candidates.new.self) name answered.asked);
+      left = inr (subst (λ n. IsQueried p (g.D.DependencyProvider.may_answer old.provider) g.D.SolvableId.Set.IdSet.has old n
+          c.cache_candidates.new.self) name answered.queried);
       later = answered.later;
     })

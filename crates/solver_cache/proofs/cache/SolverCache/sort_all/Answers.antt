@@ -6,7 +6,7 @@ use Rattle.std.proofs.lemmas.List.{take_more, take_all}
 use Rattle.typed_ids.specs.declared.error.StoreError.TheVariants.{OutOfMemory}
 use Rattle.typed_ids.specs.declared.version_set_id.VersionSetId.{VersionSetId}
 use Rattle.std.proofs.lemmas.List.Elements.{All-push}
-use Rattle.solver_cache.specs.Cache.{is_set_asked}
+use Rattle.solver_cache.specs.Cache.{is_set_queried}
 use Rattle.solver_cache.specs.Functions.{Provider, gathered}
 use Rattle.solver_cache.specs.Outcomes.{AnswersSorted, RefusesSorted}
 use Rattle.solver_cache.specs.declared.error.CacheError.TheVariants.{Store}
@@ -74,8 +74,8 @@ loop-set-preserved g c =
       listed = rw c.push_reserved.ensures.items
           (listed_push has p mid new c.loop-set.ids.items (take i sets) id v answered.later before.listed answered.list);
       later = later_trans has old mid new before.later answered.later;
-      asked = All-push (λ w. is_set_asked p new w ≡ true) (take i sets) v
-          (λ k d lt. asked_later has p _ mid new answered.later (before.asked k d lt)) answered.asked;
+      queried = All-push (λ w. is_set_queried p new w ≡ true) (take i sets) v
+          (λ k d lt. asked_later has p _ mid new answered.later (before.queried k d lt)) answered.queried;
       count = grind (arith, common_steps);
       room = c.push_reserved.ensures.capacity ∙ before.room;
     })
@@ -85,7 +85,7 @@ loop-set-init g c = rw (sym c.self.view_is) (record {
   in_turn = grind (arith, common_steps);
   listed = grind (arith, common_steps);
   later = later_same _ _;
-  asked = grind (arith, common_steps);
+  queried = grind (arith, common_steps);
   count = grind (arith, common_steps);
   room = grind (arith, common_steps);
 })
@@ -99,15 +99,15 @@ returns-clause-answered g c =
     let all : take c.loop-set.set-index sets ≡ sets = take_all c.loop-set.set-index sets c.loop-set-test.false in
     let inside = c.self-2.inside.provider in
     let same : inside ≡ old.provider = ap (λ v. v.provider) c.self-2.view_is ∙ done.later.provider in
-    let asked : All (λ v. is_set_asked (provided g old.provider) end v ≡ true) sets =
-    subst (λ l. All (λ v. is_set_asked (provided g old.provider) end v ≡ true) l) all done.asked in
+    let queried : All (λ v. is_set_queried (provided g old.provider) end v ≡ true) sets =
+    subst (λ l. All (λ v. is_set_queried (provided g old.provider) end v ≡ true) l) all done.queried in
     record {
       sorted = grind (arith, common_steps);
       lists = grind (arith, common_steps);
       later = grind (arith, common_steps);
-      asked = grind (arith, common_steps);
+      queried = grind (arith, common_steps);
       fit = subst (λ q. list_any (λ v. (provided g q).is_large_name ((provided g q).universe.set_name v)) sets ≡ false) same
           (all_asked_fit _ _ c.self-2.invariant g.met.D.NameId.SameValue.same sets
-          (subst (λ st. All (λ v. is_set_asked (provided g inside) st v ≡ true) sets) (sym c.self-2.view_is)
-          (subst (λ q. All (λ v. is_set_asked (provided g q) end v ≡ true) sets) (sym same) asked)));
+          (subst (λ st. All (λ v. is_set_queried (provided g inside) st v ≡ true) sets) (sym c.self-2.view_is)
+          (subst (λ q. All (λ v. is_set_queried (provided g q) end v ≡ true) sets) (sym same) queried)));
     }

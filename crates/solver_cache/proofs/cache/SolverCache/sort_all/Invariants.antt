@@ -1,6 +1,6 @@
 use Rattle.std.proofs.Common.{◌≡◌, true, length, take}
 use Rattle.std.specs.Prelude.{All, vec_len, vec_capacity}
-use Rattle.solver_cache.specs.Cache.{is_set_asked, AreListed}
+use Rattle.solver_cache.specs.Cache.{is_set_queried, AreListed}
 use Rattle.solver_cache.specs.Functions.{gathered}
 use Rattle.solver_cache.specs.Questions.{IsLater, AreSorted}
 use Rattle.solver_cache.proofs.cache.SolverCache.sort_all.Given as goal
@@ -17,7 +17,7 @@ invariant-loop-set g l =
       in_turn : AreSorted p (D.DependencyProvider.may_answer old.provider) has old done l.self;
       listed : AreListed p l.self l.ids.items done;
       later : IsLater has old l.self;
-      asked : All (λ v. is_set_asked p l.self v ≡ true) done;
+      queried : All (λ v. is_set_queried p l.self v ≡ true) done;
       count : vec_len l.ids ≡ l.set-index;
       room : vec_capacity l.ids ≡ length l.sets;
     }

@@ -4,7 +4,7 @@ use Rattle.std.specs.Map.{lookup}
 use Rattle.std.specs.Prelude.{All}
 use Rattle.providers.specs.Requirement.{same_requirement}
 use Rattle.providers.specs.declared.requirement.Requirement.TheVariants.{Union}
-use Rattle.solver_cache.specs.Cache.{is_kept, is_set_asked, sorted_of}
+use Rattle.solver_cache.specs.Cache.{is_cached, is_set_queried, sorted_of}
 use Rattle.solver_cache.specs.Functions.{Provider, gathered}
 use Rattle.solver_cache.specs.Questions.{IsLater}
 use Rattle.solver_cache.specs.Unanswered.{AreUnsorted}
@@ -27,26 +27,26 @@ provided g = gathered g.D.NameId.PartialEq.eq g.D.SolvableId.PartialEq.eq g.D.Na
 pub returns-in-Some-clause-answered : goal.returns-in-Some-clause-answered
 returns-in-Some-clause-answered g c =
     let r = Union c.args.union in
-    let kept = c.self.inside.sorted in
+    let cached = c.self.inside.sorted in
     let alike = same_is r in
-    let is_there : is_kept (same_requirement r) kept ≡ true = ap (λ t. is_kept t kept) (sym alike) ∙ sym c.in-Some.ensures.found in
-    let found = found_sorted _ _ c.self.invariant r c.in-Some.place is_there (c.in-Some.ensures.list ∙ ap (λ t. lookup t kept) alike) in
+    let is_there : is_cached (same_requirement r) cached ≡ true = ap (λ t. is_cached t cached) (sym alike) ∙ sym c.in-Some.ensures.found in
+    let found = found_sorted _ _ c.self.invariant r c.in-Some.place is_there (c.in-Some.ensures.list ∙ ap (λ t. lookup t cached) alike) in
     rw (sym c.self.view_is) (record {
       sorted = once_kept _ _ _ is_there;
       list = found.0;
       later = later_same _ _;
-      asked = found.1;
+      queried = found.1;
     })
 
 -- only what isn't kept is refused
 
-pub returns-in_err-list-in-None-clause-kept : goal.returns-in_err-list-in-None-clause-kept
-returns-in_err-list-in-None-clause-kept g c = λ kept.
-    absurd (true≢false (sym kept ∙ rw (sym c.self.view_is) (not_kept (Union c.args.union) c.self.inside.sorted c.in-None.ensures.found)))
+pub returns-in_err-list-in-None-clause-cached : goal.returns-in_err-list-in-None-clause-cached
+returns-in_err-list-in-None-clause-cached g c = λ cached.
+    absurd (true≢false (sym cached ∙ rw (sym c.self.view_is) (not_kept (Union c.args.union) c.self.inside.sorted c.in-None.ensures.found)))
 
-pub returns-in_err-place-in-None-clause-kept : goal.returns-in_err-place-in-None-clause-kept
-returns-in_err-place-in-None-clause-kept g c = λ kept.
-    absurd (true≢false (sym kept ∙ rw (sym c.self.view_is) (not_kept (Union c.args.union) c.self.inside.sorted c.in-None.ensures.found)))
+pub returns-in_err-place-in-None-clause-cached : goal.returns-in_err-place-in-None-clause-cached
+returns-in_err-place-in-None-clause-cached g c = λ cached.
+    absurd (true≢false (sym cached ∙ rw (sym c.self.view_is) (not_kept (Union c.args.union) c.self.inside.sorted c.in-None.ensures.found)))
 
 -- where the list can't be kept
 
@@ -74,11 +74,11 @@ insert-requires g c =
     let old = c.args.self.now in
     let mid = c.joined.new.self in
     let p = provided g old.provider in
-    let new : is_kept (same_requirement r) old.sorted ≡ false = rw (sym c.self.view_is) (not_kept r c.self.inside.sorted c.in-None.ensures.found) in
-    let still : is_kept (same_requirement r) mid.sorted ≡ false =
+    let new : is_cached (same_requirement r) old.sorted ≡ false = rw (sym c.self.view_is) (not_kept r c.self.inside.sorted c.in-None.ensures.found) in
+    let still : is_cached (same_requirement r) mid.sorted ≡ false =
     union_still_new g.D.SolvableId.Set.IdSet.has p (g.D.DependencyProvider.may_answer old.provider) u
     (p.universe.union_sets u) old mid c.in_ok-list-in-None.ensures.sorted.sorted new in
-    none_of _ (ap (λ t. is_kept t c.self-in-None.inside.sorted) (same_is r) ∙ ap (λ v. is_kept (same_requirement r) v.sorted) c.self-in-None.view_is ∙ still)
+    none_of _ (ap (λ t. is_cached t c.self-in-None.inside.sorted) (same_is r) ∙ ap (λ v. is_cached (same_requirement r) v.sorted) c.self-in-None.view_is ∙ still)
 
 pub invariant_of-self-in-None : goal.invariant_of-self-in-None
 invariant_of-self-in-None g c =
@@ -90,9 +90,9 @@ invariant_of-self-in-None g c =
     let same : q ≡ old.provider = ap (λ v. v.provider) c.self-in-None.view_is ∙ c.in_ok-list-in-None.ensures.sorted.later.provider in
     rw c.in_ok-place-in-None.ensures.ok (right_sorted _ _ c.self-in-None.invariant r c.in_ok-list-in-None.list.items
     (c.in_ok-list-in-None.ensures.list ∙ ap (λ q. sorted_of (provided g q) r) (sym same))
-    (subst (λ st. All (λ v. is_set_asked (provided g q) st v ≡ true) ((provided g q).universe.union_sets u)) (sym c.self-in-None.view_is)
-    (subst (λ q. All (λ v. is_set_asked (provided g q) mid v ≡ true) ((provided g q).universe.union_sets u))
-    (sym same) c.in_ok-list-in-None.ensures.sorted.asked)))
+    (subst (λ st. All (λ v. is_set_queried (provided g q) st v ≡ true) ((provided g q).universe.union_sets u)) (sym c.self-in-None.view_is)
+    (subst (λ q. All (λ v. is_set_queried (provided g q) mid v ≡ true) ((provided g q).universe.union_sets u))
+    (sym same) c.in_ok-list-in-None.ensures.sorted.queried)))
 
 pub returns-in_ok-place-in-None-clause-answered : goal.returns-in_ok-place-in-None-clause-answered
 returns-in_ok-place-in-None-clause-answered g c =
@@ -103,7 +103,7 @@ returns-in_ok-place-in-None-clause-answered g c =
     let p = provided g old.provider in
     let list = c.in_ok-list-in-None.list.items in
     let done = c.in_ok-list-in-None.ensures.sorted in
-    let new : is_kept (same_requirement r) old.sorted ≡ false = rw (sym c.self.view_is) (not_kept r c.self.inside.sorted c.in-None.ensures.found) in
+    let new : is_cached (same_requirement r) old.sorted ≡ false = rw (sym c.self.view_is) (not_kept r c.self.inside.sorted c.in-None.ensures.found) in
     record {
       sorted = once_new _ _ _ _ new (
         mid,
@@ -113,7 +113,7 @@ returns-in_ok-place-in-None-clause-answered g c =
       list = rw (c.in_ok-place-in-None.ensures.ok, c.in_ok-place-in-None.ensures.place)
           (value_last c.self-in-None.inside.sorted r list ∙ ap Some c.in_ok-list-in-None.ensures.list);
       later = rw c.in_ok-place-in-None.ensures.ok (later_sorted has old _ r list (subst (λ v. IsLater has old v) (sym c.self-in-None.view_is) done.later));
-      asked = subst (λ st. All (λ v. is_set_asked p st v ≡ true) (p.universe.union_sets c.args.union)) (sym c.self-in-None.view_is) done.asked;
+      queried = subst (λ st. All (λ v. is_set_queried p st v ≡ true) (p.universe.union_sets c.args.union)) (sym c.self-in-None.view_is) done.queried;
     }
 
 pub invariant_of-self : goal.invariant_of-self

@@ -3,7 +3,7 @@ use Rattle.std.proofs.lemmas.Grind.{common_steps}
 use Rattle.std.proofs.lemmas.List.{length-map}
 use Rattle.decisions.specs.Literals.{Lit}
 use Rattle.watch_map.specs.Watching.{AreTwoOrNone}
-use Rattle.watch_map.specs.ClauseList.{Clauses, Kept, contents, two_or_none}
+use Rattle.watch_map.specs.ClauseList.{Clauses, ClauseListState, contents, two_or_none}
 use Rattle.watch_map.proofs.ListLaws.{learnt_refused, two_of_ends}
 use Rattle.watch_map.proofs.clause_list.ClauseList.learn.Goals as goal
 
@@ -22,7 +22,7 @@ returns-in_err-alloc-clause-refused g c =
     let learnt : List (List Lit) = map (λ v. v.items) inside.learnt in
     let as_many : length inside.learnt ≡ length learnt = sym (length-map inside.learnt _) in
     learnt_refused c.from_residual-in_err-alloc.result (contents c.args.self.now) (length inside.learnt) c.in_err-alloc.field-0.0.error
-    (as_many ∙ ap (λ (k : Kept g.row.N.Denot). length k.learnt) c.self-2.view_is
+    (as_many ∙ ap (λ (k : ClauseListState g.row.N.Denot). length k.learnt) c.self-2.view_is
     ∙ ap (λ (cs : Clauses g.row.N.Denot). length cs.learnt) c.make_room.ensures.same)
     c.in_err-alloc.ensures.refused c.from_residual-in_err-alloc.ensures.1
 

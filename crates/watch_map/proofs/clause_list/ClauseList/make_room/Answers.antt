@@ -3,7 +3,7 @@ use Rattle.std.specs.Prelude.{vec_capacity}
 use Rattle.decisions.specs.Literals.{Lit}
 use Rattle.watch_map.specs.WatchCalls.{KeepsRoom}
 use Rattle.watch_map.specs.WatchLists.{AreUnwatchedBelow}
-use Rattle.watch_map.specs.ClauseList.{Kept, contents}
+use Rattle.watch_map.specs.ClauseList.{ClauseListState, contents}
 use Rattle.watch_map.proofs.ListLaws.{as_many_records, room_stays, seen_alike, still_kept, room_is_made}
 use Rattle.watch_map.proofs.clause_list.ClauseList.make_room.Goals as goal
 
@@ -19,7 +19,7 @@ pub returns-clause-room : goal.returns-clause-room
 returns-clause-room g c =
     let inside = c.self.inside in
     let learnt : List (List Lit) = map (λ v. v.items) inside.learnt in
-    let new : Kept g.row.N.Denot = record {
+    let new : ClauseListState g.row.N.Denot = record {
       clauses = c.reserve.new.self.items;
       records = c.reserve-2.new.self.items;
       learnt = learnt;
@@ -33,15 +33,15 @@ returns-clause-room g c =
     let clauses = subst (λ n. n + 1 ≤ vec_capacity c.reserve.new.self) c.reserve.new.self.ok.0 c.in_ok-reserve.ensures.ok in
     let records = subst (λ n. n + 1 ≤ vec_capacity c.reserve-2.new.self) c.reserve-2.new.self.ok.0 c.in_ok-reserve-2.ensures.ok in
     room_is_made c.make_room.result c.args.self.now new _ (sym c.is_full.ensures ∙ c.if-is_full.false)
-    (c.reserve.ensures.items ∙ ap (λ (k : Kept g.row.N.Denot). k.clauses) c.self.view_is) as_many clauses records
+    (c.reserve.ensures.items ∙ ap (λ (k : ClauseListState g.row.N.Denot). k.clauses) c.self.view_is) as_many clauses records
     c.make_room.ensures.room
 
 pub returns-clause-keeps : goal.returns-clause-keeps
 returns-clause-keeps g c =
-    room_stays _ _ (c.reserve.ensures.items ∙ ap (λ (k : Kept g.row.N.Denot). k.clauses) c.self.view_is)
-    (subst (λ (k : Kept g.row.N.Denot). k.clause_room ≤ vec_capacity c.reserve.new.self) c.self.view_is c.reserve.ensures.capacity)
-    (subst (λ (k : Kept g.row.N.Denot). k.record_room ≤ vec_capacity c.reserve-2.new.self) c.self.view_is c.reserve-2.ensures.capacity)
-    (subst (λ (k : Kept g.row.N.Denot). KeepsRoom k.lists c.make_room.new.map) c.self.view_is c.make_room.ensures.rooms)
+    room_stays _ _ (c.reserve.ensures.items ∙ ap (λ (k : ClauseListState g.row.N.Denot). k.clauses) c.self.view_is)
+    (subst (λ (k : ClauseListState g.row.N.Denot). k.clause_room ≤ vec_capacity c.reserve.new.self) c.self.view_is c.reserve.ensures.capacity)
+    (subst (λ (k : ClauseListState g.row.N.Denot). k.record_room ≤ vec_capacity c.reserve-2.new.self) c.self.view_is c.reserve-2.ensures.capacity)
+    (subst (λ (k : ClauseListState g.row.N.Denot). KeepsRoom k.lists c.make_room.new.map) c.self.view_is c.make_room.ensures.rooms)
 
 pub invariant_of-self-2 : goal.invariant_of-self-2
 invariant_of-self-2 g c =
@@ -58,7 +58,7 @@ invariant_of-self-2 g c =
 
 pub returns-in_err-reserve-2-clause-keeps : goal.returns-in_err-reserve-2-clause-keeps
 returns-in_err-reserve-2-clause-keeps g c =
-    room_stays _ _ (c.reserve.ensures.items ∙ ap (λ (k : Kept g.row.N.Denot). k.clauses) c.self.view_is)
-    (subst (λ (k : Kept g.row.N.Denot). k.clause_room ≤ vec_capacity c.reserve.new.self) c.self.view_is c.reserve.ensures.capacity)
-    (subst (λ (k : Kept g.row.N.Denot). k.record_room ≤ vec_capacity c.reserve-2.new.self) c.self.view_is c.reserve-2.ensures.capacity)
-    (subst (λ (k : Kept g.row.N.Denot). KeepsRoom k.lists c.self.inside.map) c.self.view_is (λ l n room. room))
+    room_stays _ _ (c.reserve.ensures.items ∙ ap (λ (k : ClauseListState g.row.N.Denot). k.clauses) c.self.view_is)
+    (subst (λ (k : ClauseListState g.row.N.Denot). k.clause_room ≤ vec_capacity c.reserve.new.self) c.self.view_is c.reserve.ensures.capacity)
+    (subst (λ (k : ClauseListState g.row.N.Denot). k.record_room ≤ vec_capacity c.reserve-2.new.self) c.self.view_is c.reserve-2.ensures.capacity)
+    (subst (λ (k : ClauseListState g.row.N.Denot). KeepsRoom k.lists c.self.inside.map) c.self.view_is (λ l n room. room))

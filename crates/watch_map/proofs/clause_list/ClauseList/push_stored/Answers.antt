@@ -2,7 +2,7 @@ use Rattle.std.proofs.lemmas.Grind.{common_steps}
 use Rattle.std.proofs.Common.{◌≡◌, ◌+◌, ◌∙◌, sym, ap, subst, map, List, ◌++◌, ◌∷◌, [], length, length-append, arith}
 use Rattle.decisions.specs.Literals.{Lit}
 use Rattle.watch_map.specs.WatchLists.{AreWatched, AreUnwatchedBelow, literals_in}
-use Rattle.watch_map.specs.ClauseList.{IsClauseList, Kept, contents, with_clause, literals_watched, HasRoomFor}
+use Rattle.watch_map.specs.ClauseList.{IsClauseList, ClauseListState, contents, with_clause, literals_watched, HasRoomFor}
 use Rattle.watch_map.specs.Walks.{StartsAtEnd}
 use Rattle.watch_map.proofs.ListLaws.{contents_of, as_many_records, more_list, pushed_contents, room_after}
 use Rattle.watch_map.proofs.UnwatchedLaws.{below_longer}
@@ -45,7 +45,7 @@ returns-clause-added g c =
     (subst (λ rs. contents_of (inside.clauses.items ++ c.args.clause ∷ []) rs learnt new ≡
     with_clause (contents c.args.self.now) c.args.clause (literals_watched c.args.watches))
     (sym c.push_reserved-2.ensures.items)
-    (subst (λ (k : Kept g.row.N.Denot). contents_of (inside.clauses.items ++ c.args.clause ∷ [])
+    (subst (λ (k : ClauseListState g.row.N.Denot). contents_of (inside.clauses.items ++ c.args.clause ∷ [])
     (ws ++ made ∷ []) learnt new ≡ with_clause (contents k) c.args.clause
     (literals_watched c.args.watches)) c.self.view_is
     (pushed_contents inside.clauses.items ws learnt inside.map new c.args.clause c.args.watches made c.self.invariant.1

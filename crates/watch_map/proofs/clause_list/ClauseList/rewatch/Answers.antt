@@ -4,7 +4,7 @@ use Rattle.typed_ids.specs.declared.error.StoreError.TheVariants.{OutOfMemory, B
 use Rattle.decisions.specs.Literals.{Lit}
 use Rattle.watch_map.specs.WatchLists.{Watches, AreWatched, AreUnwatchedBelow}
 use Rattle.watch_map.specs.WatchCalls.{SameLists}
-use Rattle.watch_map.specs.ClauseList.{IsClauseList, Kept, contents, with_rewatched}
+use Rattle.watch_map.specs.ClauseList.{IsClauseList, ClauseListState, contents, with_rewatched}
 use Rattle.watch_map.specs.Walks.{IsRewatched, may_rewatch}
 use Rattle.watch_map.proofs.ListLaws.{contents_of, can_rewatch_is, after_rewatch, ok_rewatch, err_rewatch, whole}
 use Rattle.watch_map.proofs.UnwatchedLaws.{below_rewatched}
@@ -46,7 +46,7 @@ returns-clause-ok g c =
     c.as_mut_slice.ensures.value c.rewatch.ensures.can in
     subst (λ rs. OnOk c.rewatch.result (contents_of inside.clauses.items rs learnt new ≡
     with_rewatched (contents c.args.self.now) c.args.id c.args.from c.args.to)) (sym all)
-    (subst (λ (k : Kept g.row.N.Denot). OnOk c.rewatch.result
+    (subst (λ (k : ClauseListState g.row.N.Denot). OnOk c.rewatch.result
     (contents_of inside.clauses.items ws' learnt new ≡ with_rewatched (contents k) c.args.id c.args.from c.args.to))
     c.self.view_is
     (ok_rewatch c.rewatch.result inside.clauses.items learnt ws ws' inside.map new c.args.id c.args.from c.args.to ok can))
@@ -61,13 +61,13 @@ returns-clause-err g c =
     let all = whole inside.watches.len ws' ws inside.watches.ok.0 (subst (λ rs. length ws' ≡ length rs) c.as_mut_slice.ensures.value c.rewatch.auto.watches) in
     let err = subst (λ rs. OnErr c.rewatch.result (SameLists inside.map new × (ws' ≡ rs))) c.as_mut_slice.ensures.value c.rewatch.ensures.err in
     subst (λ rs. OnErr c.rewatch.result (contents_of inside.clauses.items rs learnt new ≡ contents c.args.self.now)) (sym all)
-    (subst (λ (k : Kept g.row.N.Denot). OnErr c.rewatch.result (contents_of inside.clauses.items ws' learnt new ≡ contents k)) c.self.view_is
+    (subst (λ (k : ClauseListState g.row.N.Denot). OnErr c.rewatch.result (contents_of inside.clauses.items ws' learnt new ≡ contents k)) c.self.view_is
     (err_rewatch c.rewatch.result inside.clauses.items learnt ws ws' inside.map new c.self.invariant.1 err))
 
 pub returns-clause-refused : goal.returns-clause-refused
 returns-clause-refused g c =
     let can = ap (λ (rs : Watches). may_rewatch rs c.args.id c.args.from c.args.to) c.as_mut_slice.ensures.value
-    ∙ ap (λ (k : Kept g.row.N.Denot). may_rewatch k.records c.args.id c.args.from c.args.to) c.self.view_is
+    ∙ ap (λ (k : ClauseListState g.row.N.Denot). may_rewatch k.records c.args.id c.args.from c.args.to) c.self.view_is
     ∙ sym (can_rewatch_is c.args.self.now c.args.id c.args.from c.args.to) in
     subst (λ (b : Bool). IfErr c.rewatch.result (λ e. e ≡ (if b then OutOfMemory else BadWatch))) can
     c.rewatch.ensures.refused
@@ -75,6 +75,6 @@ returns-clause-refused g c =
 pub returns-clause-can : goal.returns-clause-can
 returns-clause-can g c =
     let can = ap (λ (rs : Watches). may_rewatch rs c.args.id c.args.from c.args.to) c.as_mut_slice.ensures.value
-    ∙ ap (λ (k : Kept g.row.N.Denot). may_rewatch k.records c.args.id c.args.from c.args.to) c.self.view_is
+    ∙ ap (λ (k : ClauseListState g.row.N.Denot). may_rewatch k.records c.args.id c.args.from c.args.to) c.self.view_is
     ∙ sym (can_rewatch_is c.args.self.now c.args.id c.args.from c.args.to) in
     subst (λ (b : Bool). OnOk c.rewatch.result (IsTrue b)) can c.rewatch.ensures.can

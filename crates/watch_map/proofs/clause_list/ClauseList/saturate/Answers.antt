@@ -3,15 +3,15 @@ use Rattle.std.specs.Prelude.{IfOk, MatchOption}
 use Rattle.decisions.specs.Literals.{Lit}
 use Rattle.decisions.specs.Trail.{val}
 use Rattle.clauses.specs.declared.clause.Clause.{Clause}
-use Rattle.clauses.specs.Stored.{kept_in}
+use Rattle.clauses.specs.Stored.{stored_in}
 use Rattle.watch_map.specs.Watching.{AreUnwatched}
 use Rattle.watch_map.specs.WatchLists.{Watches, AreWatched, AreUnwatchedBelow, literals_in, watched_by}
-use Rattle.watch_map.specs.ClauseList.{IsClauseList, Kept, contents, watched_by as watches_of}
-use Rattle.watch_map.specs.Forcing.{AreSettled, IsConflict}
-use Rattle.watch_map.specs.Saturation.{literals_from, literals_in_list, WatchOwn, IsRearranged, HasForced}
+use Rattle.watch_map.specs.ClauseList.{IsClauseList, ClauseListState, contents, watched_by as watches_of}
+use Rattle.watch_map.specs.Implication.{AreSettled, IsConflict}
+use Rattle.watch_map.specs.Saturation.{literals_from, literals_in_list, WatchOwn, IsRearranged, HasImplied}
 use Rattle.watch_map.specs.Marks.{AreMarks}
 use Rattle.watch_map.proofs.ListCallerLaws.{watched_at}
-use Rattle.watch_map.proofs.ForcingLaws.{forced_none}
+use Rattle.watch_map.proofs.ImplicationLaws.{forced_none}
 use Rattle.watch_map.proofs.ListLaws.{contents_of, as_many_records, still_list, whole}
 use Rattle.watch_map.proofs.UnwatchedLaws.{below_alike, all_of_them}
 use Rattle.watch_map.proofs.ListSaturationLaws.{own_here, rearranged_here, marks_here, marks_there}
@@ -60,28 +60,28 @@ catch_up-requires g c =
 
 pub returns-in_err-catch_up-clause-rearranged : goal.returns-in_err-catch_up-clause-rearranged
 returns-in_err-catch_up-clause-rearranged g c =
-    let literals = literals_in_list (kept_in [] c.args.lists.now c.args.disjunctions.now) (contents c.args.self.now) in
+    let literals = literals_in_list (stored_in [] c.args.lists.now c.args.disjunctions.now) (contents c.args.self.now) in
     let watched = watches_of (contents c.args.self.now) in
-    subst (λ (s : Kept g.row.N.Denot). IsRearranged literals watched (watches_of (contents s))) (sym c.self.view_is)
+    subst (λ (s : ClauseListState g.row.N.Denot). IsRearranged literals watched (watches_of (contents s))) (sym c.self.view_is)
     (record { own = c.requires.own; as_many = λ x. refl })
 
-pub returns-in_err-catch_up-clause-forced : goal.returns-in_err-catch_up-clause-forced
-returns-in_err-catch_up-clause-forced g c =
-    forced_none (literals_in_list (kept_in [] c.args.lists.now c.args.disjunctions.now) (contents c.args.self.now))
+pub returns-in_err-catch_up-clause-implied : goal.returns-in_err-catch_up-clause-implied
+returns-in_err-catch_up-clause-implied g c =
+    forced_none (literals_in_list (stored_in [] c.args.lists.now c.args.disjunctions.now) (contents c.args.self.now))
     c.args.level c.args.trail.now
 
 pub returns-in_err-catch_up-clause-marks : goal.returns-in_err-catch_up-clause-marks
 returns-in_err-catch_up-clause-marks g c =
-    let literals = literals_in_list (kept_in [] c.args.lists.now c.args.disjunctions.now) (contents c.args.self.now) in
-    subst (λ (s : Kept g.row.N.Denot). AreMarks literals (watches_of (contents s)) c.args.trail.now.entries
+    let literals = literals_in_list (stored_in [] c.args.lists.now c.args.disjunctions.now) (contents c.args.self.now) in
+    subst (λ (s : ClauseListState g.row.N.Denot). AreMarks literals (watches_of (contents s)) c.args.trail.now.entries
     c.args.marks.now) (sym c.self.view_is) c.requires.marks
 
 pub saturate-requires : goal.saturate-requires
 saturate-requires g c =
     let inside = c.self.inside in
-    let k = kept_in inside.learnt c.args.lists.now c.args.disjunctions.now in
-    let own = subst (λ (s : Kept g.row.N.Denot). WatchOwn
-    (literals_in_list (kept_in [] c.args.lists.now c.args.disjunctions.now) (contents s))
+    let k = stored_in inside.learnt c.args.lists.now c.args.disjunctions.now in
+    let own = subst (λ (s : ClauseListState g.row.N.Denot). WatchOwn
+    (literals_in_list (stored_in [] c.args.lists.now c.args.disjunctions.now) (contents s))
     (watches_of (contents s))) (sym c.self.view_is) c.requires.own in
     let here = own_here (literals_from k inside.clauses.items) inside.watches.items own in
     let learnt : List (List Lit) = map (λ v. v.items) inside.learnt in
@@ -92,8 +92,8 @@ saturate-requires g c =
     let listed = all_of_them unwatched.bound unwatched.ids.items inside.watches.items (length inside.clauses.items) below
     (c.in_ok-catch_up.ensures.ok ∙ ap length c.as_slice.ensures.value) many in
     let entries = c.args.trail.now.entries in
-    let marks = subst (λ (s : Kept g.row.N.Denot). AreMarks
-    (literals_in_list (kept_in [] c.args.lists.now c.args.disjunctions.now) (contents s))
+    let marks = subst (λ (s : ClauseListState g.row.N.Denot). AreMarks
+    (literals_in_list (stored_in [] c.args.lists.now c.args.disjunctions.now) (contents s))
     (watches_of (contents s)) entries c.args.marks.now) (sym c.self.view_is) c.requires.marks in
     record {
       watched = subst (λ (rs : Watches). AreWatched inside.map rs)
@@ -120,7 +120,7 @@ returns-clause-marks g c =
     let inside = c.self.inside in
     let ws = inside.watches.items in
     let ws' = c.saturate.new.watches in
-    let k = kept_in inside.learnt c.args.lists.now c.args.disjunctions.now in
+    let k = stored_in inside.learnt c.args.lists.now c.args.disjunctions.now in
     let entries = c.saturate.new.trail.entries in
     let marks = c.saturate.new.marks in
     let all = whole inside.watches.len ws' ws inside.watches.ok.0
@@ -128,10 +128,10 @@ returns-clause-marks g c =
     let by_cs = subst (λ (cs : List (Clause g.row.N.Denot)). AreMarks (literals_from k cs) (watched_by ws') entries
     marks) c.as_slice-2.ensures.value c.saturate.ensures.marks in
     let there = marks_there (literals_from k inside.clauses.items) ws' entries marks by_cs in
-    subst (λ (rs : Watches). AreMarks (literals_in_list (kept_in [] c.args.lists.now c.args.disjunctions.now)
+    subst (λ (rs : Watches). AreMarks (literals_in_list (stored_in [] c.args.lists.now c.args.disjunctions.now)
     (contents c.args.self.now)) (watched_at (map literals_in rs)) entries marks) (sym all)
-    (subst (λ (s : Kept g.row.N.Denot). AreMarks (literals_in_list
-    (kept_in [] c.args.lists.now c.args.disjunctions.now) (contents s)) (watched_at (map literals_in ws')) entries
+    (subst (λ (s : ClauseListState g.row.N.Denot). AreMarks (literals_in_list
+    (stored_in [] c.args.lists.now c.args.disjunctions.now) (contents s)) (watched_at (map literals_in ws')) entries
     marks) c.self.view_is there)
 
 pub returns-clause-rearranged : goal.returns-clause-rearranged
@@ -139,7 +139,7 @@ returns-clause-rearranged g c =
     let inside = c.self.inside in
     let ws = inside.watches.items in
     let ws' = c.saturate.new.watches in
-    let k = kept_in inside.learnt c.args.lists.now c.args.disjunctions.now in
+    let k = stored_in inside.learnt c.args.lists.now c.args.disjunctions.now in
     let all = whole inside.watches.len ws' ws inside.watches.ok.0
     (subst (λ rs. length ws' ≡ length rs) c.as_mut_slice.ensures.value c.saturate.auto.watches) in
     let by_ws = subst (λ (rs : Watches). IsRearranged (literals_from k c.as_slice-2.result.now) (watched_by rs)
@@ -147,10 +147,10 @@ returns-clause-rearranged g c =
     let by_cs = subst (λ (cs : List (Clause g.row.N.Denot)). IsRearranged (literals_from k cs) (watched_by ws)
     (watched_by ws')) c.as_slice-2.ensures.value by_ws in
     let here = rearranged_here (literals_from k inside.clauses.items) ws ws' by_cs in
-    subst (λ (rs : Watches). IsRearranged (literals_in_list (kept_in [] c.args.lists.now c.args.disjunctions.now)
+    subst (λ (rs : Watches). IsRearranged (literals_in_list (stored_in [] c.args.lists.now c.args.disjunctions.now)
     (contents c.args.self.now)) (watches_of (contents c.args.self.now)) (watched_at (map literals_in rs))) (sym all)
-    (subst (λ (s : Kept g.row.N.Denot). IsRearranged (literals_in_list
-    (kept_in [] c.args.lists.now c.args.disjunctions.now) (contents s)) (watches_of (contents s))
+    (subst (λ (s : ClauseListState g.row.N.Denot). IsRearranged (literals_in_list
+    (stored_in [] c.args.lists.now c.args.disjunctions.now) (contents s)) (watches_of (contents s))
     (watched_at (map literals_in ws'))) c.self.view_is here)
 
 pub returns-clause-list : goal.returns-clause-list
@@ -165,24 +165,24 @@ returns-clause-list g c =
     subst (λ rs. IsClauseList (contents_of inside.clauses.items rs learnt new)) (sym all)
     (still_list inside.clauses.items learnt ws ws' inside.map new c.self.invariant.0 long c.saturate.ensures.watched)
 
-pub returns-clause-forced : goal.returns-clause-forced
-returns-clause-forced g c =
+pub returns-clause-implied : goal.returns-clause-implied
+returns-clause-implied g c =
     let inside = c.self.inside in
-    let k = kept_in inside.learnt c.args.lists.now c.args.disjunctions.now in
-    subst (λ (s : Kept g.row.N.Denot). HasForced (literals_in_list
-    (kept_in [] c.args.lists.now c.args.disjunctions.now) (contents s)) c.args.level c.args.trail.now
+    let k = stored_in inside.learnt c.args.lists.now c.args.disjunctions.now in
+    subst (λ (s : ClauseListState g.row.N.Denot). HasImplied (literals_in_list
+    (stored_in [] c.args.lists.now c.args.disjunctions.now) (contents s)) c.args.level c.args.trail.now
     c.saturate.new.trail) c.self.view_is
-    (subst (λ (cs : List (Clause g.row.N.Denot)). HasForced
+    (subst (λ (cs : List (Clause g.row.N.Denot)). HasImplied
     (literals_from k cs) c.args.level c.args.trail.now c.saturate.new.trail) c.as_slice-2.ensures.value
-    c.saturate.ensures.forced)
+    c.saturate.ensures.implied)
 
 pub returns-clause-ok : goal.returns-clause-ok
 returns-clause-ok g c =
     let inside = c.self.inside in
-    let k = kept_in inside.learnt c.args.lists.now c.args.disjunctions.now in
-    let k0 = kept_in [] c.args.lists.now c.args.disjunctions.now in
+    let k = stored_in inside.learnt c.args.lists.now c.args.disjunctions.now in
+    let k0 = stored_in [] c.args.lists.now c.args.disjunctions.now in
     let now = val c.saturate.new.trail.entries in
-    subst (λ (s : Kept g.row.N.Denot). IfOk c.saturate.result
+    subst (λ (s : ClauseListState g.row.N.Denot). IfOk c.saturate.result
     (λ found. MatchOption found (AreSettled (literals_in_list k0 (contents s)) (length (contents s).clauses) now)
     (IsConflict (literals_in_list k0 (contents s)) (length (contents s).clauses) now))) c.self.view_is
     (subst (λ (cs : List (Clause g.row.N.Denot)). IfOk c.saturate.result

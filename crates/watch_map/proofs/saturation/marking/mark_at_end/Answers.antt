@@ -21,30 +21,30 @@ bound_of_true-requires-clause-ascending g c = c.requires.unwatched.ascending
 
 pub bound_of_true-requires-clause-first : goal.bound_of_true-requires-clause-first
 bound_of_true-requires-clause-first g c =
-    let given = c.args.given.now in
-    let literals = literals_at given in
+    let input = c.args.input.now in
+    let literals = literals_at input in
     let watched = watched_by c.args.watches.now in
-    let ids = given.unwatched.now in
+    let ids = input.unwatched.now in
     let es = c.args.trail.now.entries in
     subst (λ (now : Values). AreAllTrue literals (take c.count_before-first.result ids) now) (sym c.map.ensures.values)
-    (first_are_true literals watched (length given.clauses.now) ids (val es) c.requires.unwatched
+    (first_are_true literals watched (length input.clauses.now) ids (val es) c.requires.unwatched
     c.args.from.now.clauses c.count_before-first.result (mark_unwatched literals watched es c.args.from.now c.requires.from)
     c.count_before-first.ensures)
 
 pub returns-clause-mark : goal.returns-clause-mark
 returns-clause-mark g c =
-    let given = c.args.given.now in
-    let literals = literals_at given in
+    let input = c.args.input.now in
+    let literals = literals_at input in
     let watched = watched_by c.args.watches.now in
     let es = c.args.trail.now.entries in
     let bound = c.bound_of_true.result in
     let level = c.highest_level.result in
     let many = as_many_decisions c.assignments.result.now es c.assignments.ensures.decisions in
-    let below = true_up_to literals watched (length given.clauses.now) given.unwatched.now (values_in c.map.result.now)
+    let below = true_up_to literals watched (length input.clauses.now) input.unwatched.now (values_in c.map.result.now)
     c.requires.unwatched bound c.bound_of_true.ensures.within c.bound_of_true.ensures.below in
     let unwatched = subst (λ (now : Values). AreUnwatchedTrue literals watched bound now) c.map.ensures.values below in
     subst (λ n. IsMark literals watched es (record { place = n; clauses = bound; level = level })) (sym many)
-    (mark_made literals watched es bound level c.requires.met unwatched c.highest_level.ensures.highest)
+    (mark_made literals watched es bound level c.requires.satisfied unwatched c.highest_level.ensures.highest)
 
 pub returns-clause-behind : goal.returns-clause-behind
 returns-clause-behind g c =

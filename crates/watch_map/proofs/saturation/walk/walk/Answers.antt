@@ -1,13 +1,13 @@
 use Rattle.std.proofs.Common.{◌≡◌, ◌<◌, ◌∷◌, [], true, length, ap, sym, subst, ◌∙◌}
 use Rattle.decisions.specs.Trail.{val}
 use Rattle.watch_map.specs.WatchLists.{Position, watched_by, watchers}
-use Rattle.watch_map.specs.Forcing.{is_false}
+use Rattle.watch_map.specs.Implication.{is_false}
 use Rattle.watch_map.specs.WatchCalls.{IsReached, passed, rest}
-use Rattle.watch_map.specs.WatchInvariant.{AreMetBut, has_true_beside}
+use Rattle.watch_map.specs.WatchInvariant.{AreWatchesSatisfiedBut, has_true_beside}
 use Rattle.watch_map.specs.Visits.{literals_at, IsVisit, MayWatch}
-use Rattle.watch_map.specs.declared.saturation.visit.Upshot.{Upshot}
+use Rattle.watch_map.specs.declared.saturation.visit.VisitOutcome.{VisitOutcome}
 use Rattle.watch_map.proofs.LiteralLists.{read_in}
-use Rattle.watch_map.proofs.GivenLaws.{given_within}
+use Rattle.watch_map.proofs.InputLaws.{given_within}
 use Rattle.watch_map.proofs.CursorLaws.{reached_watches}
 use Rattle.watch_map.proofs.WalkLaws.{ahead_of, ahead_is, behind_from, behind_past, nothing_ahead, smaller_by}
 use Rattle.watch_map.proofs.WalkLaws.{IsNodeOf, known_node, placed_at, previous_watches}
@@ -26,8 +26,8 @@ node_at-current-requires-clause-watched g c =
 
 pub visit-requires-clause-own : goal.visit-requires-clause-own
 visit-requires-clause-own g c =
-    let literals = literals_at c.args.given.now in
-    let level = c.args.given.now.level in
+    let literals = literals_at c.args.input.now in
+    let level = c.args.input.now.level in
     let l = c.args.literal in
     let t = c.args.trail.now in
     let w = watched_by c.args.watches.now in
@@ -40,8 +40,8 @@ visit-requires-clause-own g c =
 
 pub visit-requires-clause-is_false : goal.visit-requires-clause-is_false
 visit-requires-clause-is_false g c =
-    let literals = literals_at c.args.given.now in
-    let level = c.args.given.now.level in
+    let literals = literals_at c.args.input.now in
+    let level = c.args.input.now.level in
     let l = c.args.literal in
     let t = c.args.trail.now in
     let w = watched_by c.args.watches.now in
@@ -51,10 +51,10 @@ visit-requires-clause-is_false g c =
     let ahead = ahead_of previous (watchers map ws l) in
     walked_false literals level l t w map ws c.loop-next.trail ahead c.requires.is_false c.loop-next.invariant.walked
 
-pub returns-in_err-visit-clause-forced : goal.returns-in_err-visit-clause-forced
-returns-in_err-visit-clause-forced g c =
-    let literals = literals_at c.args.given.now in
-    let level = c.args.given.now.level in
+pub returns-in_err-visit-clause-implied : goal.returns-in_err-visit-clause-implied
+returns-in_err-visit-clause-implied g c =
+    let literals = literals_at c.args.input.now in
+    let level = c.args.input.now.level in
     let l = c.args.literal in
     let t = c.args.trail.now in
     let w = watched_by c.args.watches.now in
@@ -62,13 +62,13 @@ returns-in_err-visit-clause-forced g c =
     let ws = c.loop-next.watches in
     let previous = c.loop-next.previous in
     let ahead = ahead_of previous (watchers map ws l) in
-    (walked_more literals level l t w map ws c.loop-next.trail c.visit.new.trail ahead c.visit.ensures.forced
-    c.loop-next.invariant.walked).forced
+    (walked_more literals level l t w map ws c.loop-next.trail c.visit.new.trail ahead c.visit.ensures.implied
+    c.loop-next.invariant.walked).implied
 
-pub returns-in_err-move_watch-in-Moves-clause-forced : goal.returns-in_err-move_watch-in-Moves-clause-forced
-returns-in_err-move_watch-in-Moves-clause-forced g c =
-    let literals = literals_at c.args.given.now in
-    let level = c.args.given.now.level in
+pub returns-in_err-move_watch-in-Moves-clause-implied : goal.returns-in_err-move_watch-in-Moves-clause-implied
+returns-in_err-move_watch-in-Moves-clause-implied g c =
+    let literals = literals_at c.args.input.now in
+    let level = c.args.input.now.level in
     let l = c.args.literal in
     let t = c.args.trail.now in
     let w = watched_by c.args.watches.now in
@@ -76,13 +76,13 @@ returns-in_err-move_watch-in-Moves-clause-forced g c =
     let ws = c.loop-next.watches in
     let previous = c.loop-next.previous in
     let ahead = ahead_of previous (watchers map ws l) in
-    (walked_more literals level l t w map ws c.loop-next.trail c.visit.new.trail ahead c.visit.ensures.forced
-    c.loop-next.invariant.walked).forced
+    (walked_more literals level l t w map ws c.loop-next.trail c.visit.new.trail ahead c.visit.ensures.implied
+    c.loop-next.invariant.walked).implied
 
-pub returns-in-Conflict-clause-forced : goal.returns-in-Conflict-clause-forced
-returns-in-Conflict-clause-forced g c =
-    let literals = literals_at c.args.given.now in
-    let level = c.args.given.now.level in
+pub returns-in-Conflict-clause-implied : goal.returns-in-Conflict-clause-implied
+returns-in-Conflict-clause-implied g c =
+    let literals = literals_at c.args.input.now in
+    let level = c.args.input.now.level in
     let l = c.args.literal in
     let t = c.args.trail.now in
     let w = watched_by c.args.watches.now in
@@ -90,8 +90,8 @@ returns-in-Conflict-clause-forced g c =
     let ws = c.loop-next.watches in
     let previous = c.loop-next.previous in
     let ahead = ahead_of previous (watchers map ws l) in
-    (walked_more literals level l t w map ws c.loop-next.trail c.visit.new.trail ahead c.visit.ensures.forced
-    c.loop-next.invariant.walked).forced
+    (walked_more literals level l t w map ws c.loop-next.trail c.visit.new.trail ahead c.visit.ensures.implied
+    c.loop-next.invariant.walked).implied
 
 pub node_of-requires-clause-two : goal.node_of-requires-clause-two
 node_of-requires-clause-two g c clause e = c.loop-next.invariant.walked.watched.exact.two clause
@@ -116,8 +116,8 @@ move_watch-requires-clause-stands g c =
     c.node_at-current.ensures.watch in
     p.at.stands
 
-pub loop-next-smaller-in-Met : goal.loop-next-smaller-in-Met
-loop-next-smaller-in-Met g c =
+pub loop-next-smaller-in-Satisfied : goal.loop-next-smaller-in-Satisfied
+loop-next-smaller-in-Satisfied g c =
     let l = c.args.literal in
     let map = c.loop-next.map in
     let ws = c.loop-next.watches in
@@ -131,10 +131,10 @@ loop-next-smaller-in-Met g c =
     c.node_at-current.ensures.watch in
     smaller_by c.node_at-current.result.clause_id (rest place map ws) ahead p.ahead
 
-pub loop-next-preserved-in-Met : goal.loop-next-preserved-in-Met
-loop-next-preserved-in-Met g c =
-    let literals = literals_at c.args.given.now in
-    let level = c.args.given.now.level in
+pub loop-next-preserved-in-Satisfied : goal.loop-next-preserved-in-Satisfied
+loop-next-preserved-in-Satisfied g c =
+    let literals = literals_at c.args.input.now in
+    let level = c.args.input.now.level in
     let l = c.args.literal in
     let t = c.args.trail.now in
     let w = watched_by c.args.watches.now in
@@ -150,12 +150,12 @@ loop-next-preserved-in-Met g c =
     c.node_at-current.ensures.watch in
     let more : IsWalked literals level l t w map ws c.visit.new.trail (c.node_at-current.result.clause_id ∷ rest place map ws) =
     subst (λ xs. IsWalked literals level l t w map ws c.visit.new.trail xs) (sym p.ahead)
-    (walked_more literals level l t w map ws c.loop-next.trail c.visit.new.trail ahead c.visit.ensures.forced
+    (walked_more literals level l t w map ws c.loop-next.trail c.visit.new.trail ahead c.visit.ensures.implied
     c.loop-next.invariant.walked) in
     let now = val c.visit.new.trail.entries in
     let id = c.node_at-current.result.clause_id in
     let seen : has_true_beside now (watched_by ws id) l ≡ true =
-    subst (λ (v : Upshot). IsVisit now (literals id) (watched_by ws id) l v) c.in-Met.is c.in_ok-visit.ensures.ok in
+    subst (λ (v : VisitOutcome). IsVisit now (literals id) (watched_by ws id) l v) c.in-Satisfied.is c.in_ok-visit.ensures.ok in
     record {
       reached = behind_past map ws place c.next_of-next.result p.at.stands c.next_of-next.ensures;
       walked = walked_next literals level l t w map ws c.visit.new.trail id (rest place map ws) seen more;
@@ -188,8 +188,8 @@ loop-next-smaller g c =
 
 pub loop-next-preserved : goal.loop-next-preserved
 loop-next-preserved g c =
-    let literals = literals_at c.args.given.now in
-    let level = c.args.given.now.level in
+    let literals = literals_at c.args.input.now in
+    let level = c.args.input.now.level in
     let l = c.args.literal in
     let t = c.args.trail.now in
     let w = watched_by c.args.watches.now in
@@ -206,7 +206,7 @@ loop-next-preserved g c =
     c.node_at-current.ensures.watch in
     let more : IsWalked literals level l t w map ws c.visit.new.trail (c.node_at-current.result.clause_id ∷ rest place map ws) =
     subst (λ xs. IsWalked literals level l t w map ws c.visit.new.trail xs) (sym p.ahead)
-    (walked_more literals level l t w map ws c.loop-next.trail c.visit.new.trail ahead c.visit.ensures.forced
+    (walked_more literals level l t w map ws c.loop-next.trail c.visit.new.trail ahead c.visit.ensures.implied
     c.loop-next.invariant.walked) in
     let reached : IsReached l place.previous c.next_of-next.result c.move_watch.new.map c.move_watch.new.watches
     (passed place map ws) (rest place map ws) =
@@ -219,7 +219,7 @@ loop-next-preserved g c =
     let now = val c.visit.new.trail.entries in
     let id = c.node_at-current.result.clause_id in
     let may : MayWatch now (literals id) (watched_by ws id) c.in-Moves.other =
-    subst (λ (v : Upshot). IsVisit now (literals id) (watched_by ws id) l v) c.in-Moves.is c.in_ok-visit.ensures.ok in
+    subst (λ (v : VisitOutcome). IsVisit now (literals id) (watched_by ws id) l v) c.in-Moves.is c.in_ok-visit.ensures.ok in
     let l_false = walked_false literals level l t w map ws c.visit.new.trail (id ∷ rest place map ws) c.requires.is_false
     more in
     record {
@@ -233,7 +233,7 @@ loop-next-preserved g c =
 
 pub returns-in-Conflict-clause-ok : goal.returns-in-Conflict-clause-ok
 returns-in-Conflict-clause-ok g c =
-    let given = c.args.given.now in
+    let input = c.args.input.now in
     let now = val c.visit.new.trail.entries in
     let l = c.args.literal in
     let ws = c.loop-next.watches in
@@ -247,11 +247,11 @@ returns-in-Conflict-clause-ok g c =
     c.in-Some.clause_id c.in-Some.is c.node_at-current.result c.node_at-current.ensures.clause c.node_at-current.ensures.within
     c.node_at-current.ensures.watch in
     let here = read_in (watched_by ws id) c.node_at-current.result.watch_index l p.at.stands.within p.at.stands.watch in
-    let within = given_within given id l (c.loop-next.invariant.walked.rearranged.own id l here) in
-    let seen : is_false now (literals_at given id) ≡ true =
-    subst (λ (v : Upshot). IsVisit now (literals_at given id) (watched_by ws id) l v) c.in-Conflict.is
+    let within = given_within input id l (c.loop-next.invariant.walked.rearranged.own id l here) in
+    let seen : is_false now (literals_at input id) ≡ true =
+    subst (λ (v : VisitOutcome). IsVisit now (literals_at input id) (watched_by ws id) l v) c.in-Conflict.is
     c.in_ok-visit.ensures.ok in
-    subst (λ x. (x < length given.clauses.now) × (is_false now (literals_at given x) ≡ true))
+    subst (λ x. (x < length input.clauses.now) × (is_false now (literals_at input x) ≡ true))
     c.node_at-current.ensures.clause (within, seen)
 
 pub returns-clause-ok : goal.returns-clause-ok
@@ -260,8 +260,8 @@ returns-clause-ok g c =
     let map = c.loop-next.map in
     let ws = c.loop-next.watches in
     let previous = c.loop-next.previous in
-    let met : AreMetBut [] l (val c.loop-next.trail.entries) (watched_by ws) =
-    subst (λ xs. AreMetBut xs l (val c.loop-next.trail.entries) (watched_by ws))
+    let satisfied : AreWatchesSatisfiedBut [] l (val c.loop-next.trail.entries) (watched_by ws) =
+    subst (λ xs. AreWatchesSatisfiedBut xs l (val c.loop-next.trail.entries) (watched_by ws))
     (nothing_ahead map ws l previous c.loop-next.next c.loop-next.invariant.reached c.in_default.is)
     c.loop-next.invariant.walked.ahead_met in
-    met
+    satisfied

@@ -5,13 +5,13 @@ use Rattle.std.proofs.lemmas.Option.{slice_get_read}
 use Rattle.decisions.specs.Decisions.{values_in}
 use Rattle.decisions.specs.Literals.{is_false_literal}
 use Rattle.clauses.specs.Clauses.{literals_of, same_literal}
-use Rattle.clauses.specs.Stored.{kept_in}
+use Rattle.clauses.specs.Stored.{stored_in}
 use Rattle.watch_map.proofs.watched_literals.WatchedLiterals.next_unwatched_literal.Goals as goal
 
 pub returns : goal.returns
 returns g c =
     let now = values_in c.args.map.now in
-    let ls = literals_of (kept_in c.args.learnt.now c.args.lists.now c.args.disjunctions.now) c.args.clause.now in
+    let ls = literals_of (stored_in c.args.learnt.now c.args.lists.now c.args.disjunctions.now) c.args.clause.now in
     let watches = c.args.self.now.watched_literals in
     let other = c.index-self-index.result in
     let there : slice_get watches (1 - c.args.index) ≡ Some other =

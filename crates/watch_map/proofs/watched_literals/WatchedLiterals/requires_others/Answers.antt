@@ -31,7 +31,7 @@ returns-clause-conflict g c =
     c.find-other.ensures.tested (λ l. not (is_false_literal (values_in c.map-map.result.now) l)) (λ x b k. search (rules, tests)) in
     let open_now : c.find-other.result ≡ find (λ l. not (is_false_literal now l)) ls =
     other ∙ ap (λ v. find (λ l. not (is_false_literal v l)) ls) c.map-map.ensures.values in
-    c.is_met_by_parent-conflict.ensures
+    c.conflicts_with_parent-conflict.ensures
     ∙ (ap (λ b. not b && (c.is_some-2.result && not (known_false c.assigned_value-value.result))) (c.is_some.ensures ∙ ap is_some open_now)
     ∙ (ap (λ b. not (is_some (find (λ l. not (is_false_literal now l)) ls)) &&
     (b && not (known_false c.assigned_value-value.result))) (c.is_some-2.ensures ∙ ap is_some first)

@@ -1,0 +1,14 @@
+use Rattle.std.proofs.Common.{◌≤◌, ◌<◌, length}
+use Rattle.example_index.specs.Reading.{IsFurther}
+use Rattle.example_index.proofs.line.Words.together.Given as goal
+
+abbrev pub invariant-others : goal.invariant-others
+invariant-others l = record {
+  further : IsFurther l.fn.self l.self;
+  here : l.condition < length l.pool.conditions;
+  conditions : length l.fn.pool.conditions ≤ length l.pool.conditions;
+  names : length l.fn.pool.names ≤ length l.pool.names;
+}
+
+abbrev pub decreases-others : goal.decreases-others
+decreases-others l = length l.self.rest.now

@@ -1,0 +1,63 @@
+-- What a small index answers.
+use Rattle.std.specs.Prelude.{◌≡◌, ℕ, ◌++◌, ◌==◌, Bool, true, ◌&&◌, All, nat_le, nat_lt, List, [], Option, None, Some}
+use Rattle.std.specs.Prelude.{length, slice_get, unwrap_or, option_map, filter, codes, decimal}
+use Rattle.std.specs.List.{sum_by}
+use Rattle.std.specs.declared.vec.Vec.{Vec}
+use Rattle.std.proofs.lemmas.List.Elements.{All-filter, filter_passes}
+use Rattle.resolvo_ids.specs.Types.VersionSetId.{VersionSetId}
+use Rattle.resolvo_pool.specs.Dependencies.{Needs, Known}
+use Rattle.resolvo_pool.specs.Pool.{Lists}
+use Rattle.resolvo_pool.specs.PoolIds.{solvable_name_in}
+use Rattle.resolvo_pool.specs.Types.KnownDependencies.{KnownDependencies}
+use Rattle.resolvo_pool.specs.Types.Solvable.{Solvable}
+use Rattle.example_index.specs.declared.range.VersionRange.{VersionRange}
+
+-- as 1..3
+abbrev pub range_text : VersionRange → List ℕ
+range_text range = decimal range.low ++ (codes ".." ++ decimal range.high)
+
+abbrev pub is_within : VersionRange → ℕ → Bool
+is_within range version = nat_le range.low version && nat_lt version range.high
+
+module _ {N : Type 0} (pool : Lists N VersionRange ℕ) where
+  -- the version of a solvable
+  abbrev pub version_in : ℕ → ℕ
+  version_in s = unwrap_or (option_map (λ (x : Solvable ℕ). x.payload) (slice_get pool.solvables s)) 0
+
+  -- the range of a version set
+  abbrev pub range_in : VersionSetId → VersionRange
+  range_in v =
+      unwrap_or (option_map (λ (x : ℕ × VersionRange). x.1) (slice_get pool.version_sets v.0))
+      (record { low = 0; high = 0 })
+
+  -- of these solvables, those that the pool has
+  abbrev pub here : List ℕ → List ℕ
+  here solvables = filter (λ s. nat_lt s (length pool.solvables)) solvables
+
+  -- of these solvables, those of a package
+  abbrev pub of_name : ℕ → List ℕ → List ℕ
+  of_name name solvables = filter (λ s. solvable_name_in pool s == name) solvables
+
+  -- the pool has those that are queried
+  pub named_known : (name : ℕ) (solvables : List ℕ) →
+      All (λ s. nat_lt s (length pool.solvables) ≡ true) (of_name name (here solvables))
+  named_known name solvables = All-filter _ (λ s. nat_lt s (length pool.solvables) ≡ true) _ (filter_passes _ solvables)
+
+-- the versions in a list; none if there is no list
+abbrev pub versions_or_none : {A : Type 0} → Option (Vec ℕ A) → List ℕ
+versions_or_none None = []
+versions_or_none (Some list) = list.items
+
+-- the versions at a name's place
+abbrev pub versions_at : {A : Type 0} → List (Vec ℕ A) → ℕ → List ℕ
+versions_at lists name = versions_or_none (slice_get lists name)
+
+-- how many versions there are
+abbrev pub count_of : {A : Type 0} → List (Vec ℕ A) → ℕ
+count_of lists = sum_by (λ list. length list.items) lists
+
+-- what the solvable at this place of the list needs; nothing if there is none
+abbrev pub needs_at : {A : Type 0} → List (KnownDependencies A) → ℕ → Needs
+needs_at {A} list place =
+    unwrap_or (option_map (λ (known : KnownDependencies A). Known known.requirements.items known.constrains.items)
+    (slice_get list place)) (Known [] [])

@@ -1,0 +1,232 @@
+//! The provider: what an index answers as an interner, in its first half, and as a provider, in its second.
+ghost use Rattle.std.specs.Prelude.{◌≡◌, ◌<◌, true, All, None, length, reverse};
+ghost use Rattle.std.specs.Prelude.{string_bytes, decimal, IfOk, IfErr, OnOk, OnErr};
+ghost use Rattle.resolvo_ids.specs.Types.StoreError.TheVariants.{OutOfMemory};
+ghost use Rattle.resolvo_pool.specs.Pool.{IsOfItself};
+ghost use Rattle.resolvo_pool.specs.PoolProps.{pool_props};
+ghost use Rattle.resolvo_pool.specs.Provider.{filtered};
+ghost use Rattle.resolvo_pool.specs.Texts.{IsAppended, IsSameText};
+ghost use Rattle.example_index.specs.Index.{here, of_name, is_within, version_in};
+
+use crate::range::VersionRange;
+use resolvo_ids::{
+    ConditionId, DenseIndex, NameId, SolvableId, StoreError, StringId, VersionSetId,
+    VersionSetUnionId,
+};
+use resolvo_pool::{
+    Candidates, Condition, Dependencies, DependencyProvider, Interner, KnownDependencies, Pool,
+};
+use std::alloc::Global;
+
+/// The versions of packages, and what each needs.
+#[derive(Drop)]
+pub struct SmallIndex {
+    /// What the text's words are copied with.
+    pub(crate) alloc: Global,
+    /// Names, versions, ranges and conditions, each by its id.
+    pub(crate) pool: Pool<VersionRange>,
+    /// The versions of each package, at its name's place, in the order of their lines. A later one is the better.
+    pub(crate) versions: Vec<Vec<SolvableId>>,
+    /// What each solvable needs, at its place.
+    pub(crate) needs: Vec<KnownDependencies>,
+    ghost of_itself: { IsOfItself pool } by { Prim.hlevel pool_props },
+}
+
+/// The ids are the pool's, and so are the laws of them.
+impl Interner for SmallIndex {
+    ghost use Rattle.resolvo_pool.specs.PoolIds.{universe_in, texts_in};
+    ghost use Rattle.resolvo_pool.specs.PoolLaws.{pool_solvable_names, pool_set_names, pool_union_sets, pool_operands};
+    ghost use Rattle.example_index.specs.Index.{range_text};
+
+    type Alloc = Global;
+
+    type NameId = NameId;
+
+    type SolvableId = SolvableId;
+
+    ghost universe = { λ index. universe_in index.pool };
+
+    ghost texts = { λ index. texts_in index.pool string_bytes range_text decimal };
+
+    ghost solvable_names_known = { λ index. pool_solvable_names index.pool index.of_itself };
+
+    ghost set_names_known = { λ index. pool_set_names index.pool index.of_itself };
+
+    ghost union_sets_known = { λ index. pool_union_sets index.pool index.of_itself };
+
+    ghost operands_known = { λ index. pool_operands index.pool index.of_itself };
+
+    fn knows_string(&self, string: StringId) -> bool {
+        self.pool.knows_string(string)
+    }
+
+    fn knows_name(&self, name: NameId) -> bool {
+        self.pool.knows_name(name)
+    }
+
+    fn knows_solvable(&self, solvable: SolvableId) -> bool {
+        self.pool.knows_solvable(solvable)
+    }
+
+    fn knows_version_set(&self, set: VersionSetId) -> bool {
+        self.pool.knows_version_set(set)
+    }
+
+    fn knows_union(&self, union: VersionSetUnionId) -> bool {
+        self.pool.knows_union(union)
+    }
+
+    fn knows_condition(&self, condition: ConditionId) -> bool {
+        self.pool.knows_condition(condition)
+    }
+
+    fn version_set_name(&self, set: VersionSetId) -> NameId {
+        self.pool.resolve_version_set_package_name(set)
+    }
+
+    fn solvable_name(&self, solvable: SolvableId) -> NameId {
+        self.pool.resolve_solvable(solvable).name
+    }
+
+    fn version_sets_in_union(&self, union: VersionSetUnionId) -> &[VersionSetId] {
+        self.pool.resolve_version_set_union(union)
+    }
+
+    fn resolve_condition(&self, condition: ConditionId) -> Condition {
+        *self.pool.resolve_condition(condition)
+    }
+
+    fn display_solvable(&self, solvable: SolvableId, out: &mut String) -> Result<(), StoreError> {
+        let solvable = self.pool.resolve_solvable(solvable);
+        let name = self.pool.resolve_package_name(solvable.name);
+        let version = solvable.payload;
+        append(out, &format!(in *out.allocator(); "{name} {version}")?)
+    }
+
+    fn display_name(&self, name: NameId, out: &mut String) -> Result<(), StoreError> {
+        append(out, self.pool.resolve_package_name(name))
+    }
+
+    fn display_version_set(&self, set: VersionSetId, out: &mut String) -> Result<(), StoreError> {
+        let range = self.pool.resolve_version_set(set);
+        append(out, &range.to_string(*out.allocator())?)
+    }
+
+    fn display_string(&self, string: StringId, out: &mut String) -> Result<(), StoreError> {
+        append(out, self.pool.resolve_string(string))
+    }
+}
+
+/// Appends a text.
+fn append(out: &mut String, text: &str) -> Result<(), StoreError>
+    ensures ok { OnOk result (IsAppended out.old out.new text.now) }
+    ensures err { OnErr result (IsSameText out.old out.new) }
+    ensures memory { IfErr result (λ e. e ≡ OutOfMemory) }
+{
+    Ok(out.push_str(text)?)
+}
+
+impl DependencyProvider for SmallIndex {
+    ghost use Rattle.std.proofs.lemmas.List.Sorted.{IsPermutation-reverse};
+    ghost use Rattle.example_index.specs.Index.{range_in, versions_at, needs_at, named_known};
+
+    type Cancel = ();
+
+    ghost answers = { λ index. record {
+      candidates = λ name. of_name index.pool name (here index.pool (versions_at index.versions.items name));
+      matches = λ set s. is_within (range_in index.pool set) (version_in index.pool s);
+      favored = λ name. None;
+      order = λ list. reverse list;
+      needs = λ s. needs_at index.needs.items s;
+    } };
+
+    ghost candidates_known = { λ index name. named_known index.pool name (versions_at index.versions.items name) };
+
+    ghost order_permutes = { λ index list. IsPermutation-reverse list };
+
+    fn filter_candidates(
+        &self,
+        alloc: Global,
+        candidates: &[SolvableId],
+        set: VersionSetId,
+        inverse: bool,
+    ) -> Result<Vec<SolvableId>, StoreError> {
+        let range = *self.pool.resolve_version_set(set);
+        within(alloc, &self.pool, candidates, range, inverse)
+    }
+
+    fn get_candidates(
+        &self,
+        alloc: Global,
+        name: NameId,
+    ) -> Result<Option<Candidates<SolvableId>>, StoreError> {
+        let mut found = Candidates::new(alloc);
+        if let Some(versions) = self.versions.get(name.to_index()) {
+            found.candidates = named(alloc, &self.pool, versions, name)?;
+        }
+        Ok(Some(found))
+    }
+
+    fn sort_candidates(
+        &self,
+        _alloc: Global,
+        solvables: &mut [SolvableId],
+    ) -> Result<(), StoreError> {
+        solvables.reverse();
+        Ok(())
+    }
+
+    fn get_dependencies(
+        &self,
+        alloc: Global,
+        solvable: SolvableId,
+    ) -> Result<Dependencies, StoreError> {
+        let mut found = KnownDependencies::new(alloc);
+        if let Some(known) = self.needs.get(solvable.to_index()) {
+            found.requirements.extend_from_slice(&known.requirements)?;
+            found.constrains.extend_from_slice(&known.constrains)?;
+        }
+        Ok(Dependencies::Known(found))
+    }
+}
+
+/// Those of the solvables that the pool has under this name.
+fn named(
+    alloc: Global,
+    pool: &Pool<VersionRange>,
+    solvables: &[SolvableId],
+    name: NameId,
+) -> Result<Vec<SolvableId>, StoreError>
+    ensures ok { IfOk result (λ found. found.items ≡ of_name pool.now name (here pool.now solvables.now)) }
+    ensures err { IfErr result (λ e. e ≡ OutOfMemory) }
+{
+    let mut found = Vec::new(alloc);
+    for solvable in solvables {
+        if pool.knows_solvable(*solvable) && pool.resolve_solvable(*solvable).name == name {
+            found.push(*solvable)?;
+        }
+    }
+    Ok(found)
+}
+
+/// The solvables whose versions are in the range, or, if `inverse`, the others.
+fn within(
+    alloc: Global,
+    pool: &Pool<VersionRange>,
+    solvables: &[SolvableId],
+    range: VersionRange,
+    inverse: bool,
+) -> Result<Vec<SolvableId>, StoreError>
+    requires { All (λ s. s < length pool.now.solvables) solvables.now }
+    ensures ok { IfOk result (λ found. found.items ≡
+        filtered (λ s. is_within range (version_in pool.now s)) inverse solvables.now) }
+    ensures err { IfErr result (λ e. e ≡ OutOfMemory) }
+{
+    let mut found = Vec::new(alloc);
+    for solvable in solvables {
+        if range.holds(pool.resolve_solvable(*solvable).payload) != inverse {
+            found.push(*solvable)?;
+        }
+    }
+    Ok(found)
+}

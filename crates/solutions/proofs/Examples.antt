@@ -1,0 +1,103 @@
+-- Solutions in a small ecosystem, and what is none. The solvable 0 is an app, 1 and 2 are versions of a library, 3 is a
+-- plugin. The app needs the library, and the plugin where version 2 of the library is picked; it allows no other version.
+use Rattle.std.proofs.Common.{◌≡◌, ℕ, true, false, List, [], ◌∷◌, refl, None, Some, if◌then◌else◌, ◌==◌, nat_eq, nat_lt, true≢false, sym}
+use Rattle.std.specs.List.{IsDistinct}
+use Rattle.std.proofs.lemmas.List.Elements.{All-nil, All-cons, All-head, All-tail}
+use Rattle.resolvo_ids.specs.Types.VersionSetId.{VersionSetId}
+use Rattle.resolvo_pool.specs.Conditions.{Leaf, leaf}
+use Rattle.resolvo_pool.specs.Dependencies.{Needs, Known}
+use Rattle.resolvo_pool.specs.Functions.{Provider}
+use Rattle.resolvo_pool.specs.Types.Condition.TheVariants as Cond
+use Rattle.resolvo_pool.specs.Types.ConditionalRequirement.{ConditionalRequirement}
+use Rattle.resolvo_pool.specs.Types.Requirement.TheVariants.{Single}
+use Rattle.solutions.specs.Solutions.{AreNeedsSatisfied, IsSatisfied, IsSolution, is_among}
+
+abbrev set : ℕ → VersionSetId
+set n = record { 0 = n }
+
+-- a requirement of a version set, always, and under a condition
+abbrev always : ℕ → ConditionalRequirement
+always n = record { condition = None; requirement = Single (set n) }
+
+abbrev under : ℕ → ℕ → ConditionalRequirement
+under condition n = record { condition = Some condition; requirement = Single (set n) }
+
+-- the version sets hold 0 the app, 1 each version of the library, 2 its version 2, 3 the plugin
+abbrev package_of_set : ℕ → ℕ
+package_of_set v = if v == 0 then 0 else (if v == 3 then 2 else 1)
+
+abbrev needs : ℕ → Needs
+needs s = if s == 0 then Known (always 1 ∷ under 0 3 ∷ []) (set 2 ∷ []) else Known [] []
+
+abbrev ecosystem : Provider ℕ ℕ
+ecosystem = record {
+  same_name = nat_eq;
+  same_solvable = nat_eq;
+  is_large_name = λ _. false;
+  is_large_solvable = λ _. false;
+  is_large_hint = λ _. false;
+  are_names_many = false;
+  universe = record {
+    knows_string = λ _. false;
+    knows_name = λ n. nat_lt n 3;
+    knows_solvable = λ s. nat_lt s 4;
+    knows_set = λ v. nat_lt v.0 4;
+    knows_union = λ _. false;
+    knows_condition = λ c. nat_lt c 1;
+    solvable_name = λ s. if s == 0 then 0 else (if s == 3 then 2 else 1);
+    set_name = λ v. package_of_set v.0;
+    union_sets = λ _. [];
+    condition = λ _. Cond.Requirement (set 2);
+  };
+  answers = record {
+    candidates = λ n. if n == 0 then 0 ∷ [] else (if n == 1 then 1 ∷ 2 ∷ [] else 3 ∷ []);
+    matches = λ v s. if v.0 == 2 then s == 2 else true;
+    favored = λ _. None;
+    order = λ solvables. solvables;
+    needs = needs;
+  };
+}
+
+abbrev requested : List ConditionalRequirement
+requested = always 0 ∷ []
+
+-- the app, version 2 and the plugin are a solution
+pub all_three : IsSolution ecosystem requested (0 ∷ 2 ∷ 3 ∷ [])
+unfolding IsDistinct
+all_three =
+    let has = is_among ecosystem (0 ∷ 2 ∷ 3 ∷ []) in
+    let is_satisfied = IsSatisfied ecosystem has in
+    let are_needs_satisfied = λ (s : ℕ). AreNeedsSatisfied ecosystem has (needs s) in
+    let is_known = λ (s : ℕ). nat_lt s 4 ≡ true in
+    record {
+      known = All-cons is_known 0 (2 ∷ 3 ∷ []) refl (All-cons is_known 2 (3 ∷ []) refl (All-cons is_known 3 [] refl (All-nil is_known)));
+      one_a_package = ((refl, (refl, tt)), ((refl, tt), (tt, tt)));
+      satisfied = All-cons is_satisfied (always 0) [] refl (All-nil is_satisfied);
+      needs_satisfied = All-cons are_needs_satisfied 0 (2 ∷ 3 ∷ [])
+          (All-cons is_satisfied (always 1) (under 0 3 ∷ []) refl (All-cons is_satisfied (under 0 3) [] (refl, λ _. refl) (All-nil is_satisfied)), refl)
+          (All-cons are_needs_satisfied 2 (3 ∷ []) (All-nil is_satisfied, refl) (All-cons are_needs_satisfied 3 [] (All-nil is_satisfied, refl) (All-nil are_needs_satisfied)));
+    }
+
+-- without the plugin they aren't, since version 2 is picked
+pub no_plugin : IsSolution ecosystem requested (0 ∷ 2 ∷ []) → ⊥
+no_plugin s =
+    let has = is_among ecosystem (0 ∷ 2 ∷ []) in
+    let is_satisfied = IsSatisfied ecosystem has in
+    let app = All-head (λ s. AreNeedsSatisfied ecosystem has (needs s)) 0 (2 ∷ []) s.needs_satisfied in
+    let plugin = All-head is_satisfied (under 0 3) [] (All-tail is_satisfied (always 1) (under 0 3 ∷ []) app.0) in
+    true≢false (sym (plugin.1 (Leaf (set 2), leaf (set 2) refl, refl)))
+
+-- version 1 is none that the app allows
+pub old_version : IsSolution ecosystem requested (0 ∷ 1 ∷ []) → ⊥
+old_version s =
+    let has = is_among ecosystem (0 ∷ 1 ∷ []) in
+    true≢false (sym (All-head (λ s. AreNeedsSatisfied ecosystem has (needs s)) 0 (1 ∷ []) s.needs_satisfied).1)
+
+-- no two versions
+pub both_versions : IsSolution ecosystem requested (1 ∷ 2 ∷ []) → ⊥
+unfolding IsDistinct
+both_versions s = true≢false s.one_a_package.0.0
+
+-- the app is requested
+pub nothing : IsSolution ecosystem requested [] → ⊥
+nothing s = true≢false (sym (All-head (IsSatisfied ecosystem (is_among ecosystem [])) (always 0) [] s.satisfied))

@@ -1,0 +1,22 @@
+use Rattle.std.proofs.Common.{◌≡◌, true, false, refl, rules}
+use Rattle.solutions.specs.Clauses.{AreSatisfied, IsOneAName}
+use Rattle.solutions.proofs.DecisionLemmas.{answered}
+use Rattle.solutions.proofs.FollowsLemmas.{follows_none, follows_step}
+use Rattle.solutions.proofs.clauses.Rules.propagate_literal.Goals as goal
+
+pub returns-then-branch : goal.returns-then-branch
+returns-then-branch g c =
+    let yes : c.in_ok-forbid_others.field-0 ≡ true = search rules in
+    follows_step (λ holds. IsOneAName holds × AreSatisfied holds c.args.self.now.clauses.now) (IsOneAName) c.args.trail.now.literals.items c.args.trail.now.literals.items c.forbid_others.new.trail.literals.items c.in_ok-forbid_others.field-0 true yes
+    (λ holds such trail. such.0) (follows_none (λ holds. IsOneAName holds × AreSatisfied holds c.args.self.now.clauses.now) c.args.trail.now.literals.items) c.in_ok-forbid_others.ensures
+
+pub returns : goal.returns
+returns g c =
+    let no : c.in_ok-forbid_others.field-0 ≡ false = search rules in
+    answered c.visit_watchers.result
+    (λ answer follows. follows_step (λ holds. IsOneAName holds × AreSatisfied holds c.args.self.now.clauses.now) (λ holds. AreSatisfied holds c.args.self.now.clauses.now) c.args.trail.now.literals.items c.forbid_others.new.trail.literals.items c.visit_watchers.new.trail.literals.items answer answer refl
+    (λ holds such trail. such.1)
+    (follows_step (λ holds. IsOneAName holds × AreSatisfied holds c.args.self.now.clauses.now) (IsOneAName) c.args.trail.now.literals.items c.args.trail.now.literals.items c.forbid_others.new.trail.literals.items c.in_ok-forbid_others.field-0 false no
+    (λ holds such trail. such.0) (follows_none (λ holds. IsOneAName holds × AreSatisfied holds c.args.self.now.clauses.now) c.args.trail.now.literals.items) c.in_ok-forbid_others.ensures)
+    follows)
+    c.visit_watchers.ensures

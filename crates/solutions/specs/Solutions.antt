@@ -1,0 +1,61 @@
+-- When solvables are a solution: in the words of the packages alone. N are the names, S the solvables.
+use Rattle.std.specs.Prelude.{◌≡◌, ℕ, Bool, true, not, ◌&&◌, All, List, map, Option, None, Some}
+use Rattle.std.specs.List.{list_all, list_any, IsDistinct}
+use Rattle.resolvo_ids.specs.Types.VersionSetId.{VersionSetId}
+use Rattle.resolvo_pool.specs.Conditions.{Formula, Denotes, formula_holds}
+use Rattle.resolvo_pool.specs.Dependencies.{Needs, Known, Unknown}
+use Rattle.resolvo_pool.specs.Functions.{Provider}
+use Rattle.resolvo_pool.specs.Provider.{matching, non_matching, sets_of, knows_requirement}
+use Rattle.resolvo_pool.specs.Types.ConditionalRequirement.{ConditionalRequirement}
+use Rattle.resolvo_pool.specs.Types.Requirement.{Requirement}
+
+module _ {N S : Type 0} (p : Provider N S) (is_picked : S → Bool) where
+  -- a candidate that the version set holds is picked
+  abbrev pub has_picked : VersionSetId → Bool
+  has_picked set = p.universe.knows_set set && list_any is_picked (matching p.universe p.answers set)
+
+  -- one of the requirement's version sets has a picked candidate
+  abbrev pub is_satisfied : Requirement → Bool
+  is_satisfied requirement =
+      knows_requirement p.universe requirement && list_any has_picked (sets_of p.universe requirement)
+
+  -- the condition's formula holds of the version sets that have a picked candidate
+  abbrev pub ConditionHolds : ℕ → Type 0
+  ConditionHolds condition =
+      (formula : Formula) × Denotes p.universe condition formula × (formula_holds has_picked formula ≡ true)
+
+  -- the requirement is satisfied; under a condition, that is known, and if it holds, the requirement is satisfied
+  abbrev pub IsSatisfiedUnder : Option ℕ → Requirement → Type 0
+  IsSatisfiedUnder None requirement = is_satisfied requirement ≡ true
+  IsSatisfiedUnder (Some condition) requirement =
+      (p.universe.knows_condition condition ≡ true) × (ConditionHolds condition → is_satisfied requirement ≡ true)
+
+  abbrev pub IsSatisfied : ConditionalRequirement → Type 0
+  IsSatisfied conditional = IsSatisfiedUnder conditional.condition conditional.requirement
+
+  -- no candidate of its package that the version set doesn't hold is picked
+  abbrev pub is_respected : VersionSetId → Bool
+  is_respected set = p.universe.knows_set set && not (list_any is_picked (non_matching p.universe p.answers set))
+
+  -- the needs are known, each requirement is satisfied, and each constraint respected
+  abbrev pub AreNeedsSatisfied : Needs → Type 0
+  AreNeedsSatisfied (Known requirements constrains) =
+      All IsSatisfied requirements × (list_all is_respected constrains ≡ true)
+  AreNeedsSatisfied (Unknown reason) = ⊥
+
+-- the solvable is one of these
+abbrev pub is_among : {N S : Type 0} → Provider N S → List S → S → Bool
+is_among p picked solvable = list_any (p.same_solvable solvable) picked
+
+-- these solvables are a solution of the request, which is a list of requirements
+pub record IsSolution {N S : Type 0} (p : Provider N S) (requested : List ConditionalRequirement)
+    (picked : List S) : Type 0 where
+  pub known : All (λ s. p.universe.knows_solvable s ≡ true) picked
+  -- one version of a package, once
+  pub one_a_package : IsDistinct p.same_name (map p.universe.solvable_name picked)
+  pub satisfied : All (IsSatisfied p (is_among p picked)) requested
+  pub needs_satisfied : All (λ s. AreNeedsSatisfied p (is_among p picked) (p.answers.needs s)) picked
+
+-- there is no solution
+abbrev pub IsUnsolvable : {N S : Type 0} → Provider N S → List ConditionalRequirement → Type 0
+IsUnsolvable {N} {S} p requested = (picked : List S) → IsSolution p requested picked → ⊥

@@ -1,0 +1,57 @@
+-- What is so of a selection of solvables, and what clauses say of it. N are the names, S the solvables, A the
+-- allocators.
+use Rattle.std.specs.Prelude.{◌≡◌, Bool, true, false, ◌&&◌, ◌||◌, List, All}
+use Rattle.std.specs.List.{list_all, list_any}
+use Rattle.std.specs.declared.vec.Vec.{Vec}
+use Rattle.resolvo_ids.specs.Types.VersionSetId.{VersionSetId}
+use Rattle.resolvo_pool.specs.Dependencies.{Needs}
+use Rattle.resolvo_pool.specs.Functions.{Provider}
+use Rattle.resolvo_pool.specs.Types.ConditionalRequirement.{ConditionalRequirement}
+use Rattle.resolvo_pool.specs.Types.Requirement.{Requirement}
+use Rattle.solutions.specs.Clauses.{AreSatisfied, has_true}
+use Rattle.solutions.specs.Solutions.{AreNeedsSatisfied, IsSatisfied, has_picked, is_among, is_respected, is_satisfied}
+use Rattle.solutions.specs.declared.literal.Fact.{Fact}
+use Rattle.solutions.specs.declared.literal.Fact.TheVariants.{Picked, Held}
+use Rattle.solutions.specs.declared.literal.Literal.{Literal}
+
+-- the solvable is picked, and its package has the name; one is picked that the version set holds
+abbrev pub truth : {N S : Type 0} → Provider N S → List S → Fact N S → Bool
+truth p picked (Picked s n) = is_among p picked s && p.same_name (p.universe.solvable_name s) n
+truth p picked (Held set) = has_picked p (is_among p picked) set
+
+-- if this is so of a selection, and it satisfies the old clauses, it satisfies the new ones
+abbrev pub AreStillSatisfied : {N S A : Type 0} → Provider N S → (List S → Type 0) →
+    (old new : List (Vec (Literal N S) A)) → Type 0
+AreStillSatisfied {N} {S} p IsSo old new =
+    (picked : List S) → IsSo picked → AreSatisfied (truth p picked) old → AreSatisfied (truth p picked) new
+
+-- in each selection one of the new literals is true exactly if one of the old ones is, or this is so
+abbrev pub HasTrueOr : {N S : Type 0} → Provider N S → (List S → Bool) → (old new : List (Literal N S)) → Type 0
+HasTrueOr {N} {S} p is_so old new =
+    (picked : List S) → has_true (truth p picked) new ≡ (has_true (truth p picked) old || is_so picked)
+
+module _ {N S : Type 0} (p : Provider N S) (unless : List (Literal N S)) (picked : List S) where
+  -- if none of these literals is true, this is so of the selection
+  abbrev pub Unless : Type 0 → Type 0
+  Unless IsSo = has_true (truth p picked) unless ≡ false → IsSo
+
+  abbrev pub AreSatisfiedUnless : List ConditionalRequirement → Type 0
+  AreSatisfiedUnless requirements = Unless (All (IsSatisfied p (is_among p picked)) requirements)
+
+  abbrev pub AreRespectedUnless : List VersionSetId → Type 0
+  AreRespectedUnless sets = Unless (list_all (is_respected p (is_among p picked)) sets ≡ true)
+
+  abbrev pub AreNeedsSatisfiedUnless : Needs → Type 0
+  AreNeedsSatisfiedUnless needs = Unless (AreNeedsSatisfied p (is_among p picked) needs)
+
+  abbrev pub NonePickedUnless : List S → Type 0
+  NonePickedUnless solvables = Unless (list_any (is_among p picked) solvables ≡ false)
+
+  -- if each version set of one of these lists has a picked candidate, the requirement is satisfied
+  abbrev pub IsSatisfiedUnless : List (List VersionSetId) → Requirement → Type 0
+  IsSatisfiedUnless lists requirement = Unless (list_any (list_all (has_picked p (is_among p picked))) lists ≡ true →
+      is_satisfied p (is_among p picked) requirement ≡ true)
+
+-- the needs of each selected solvable are satisfied
+abbrev pub AreAllNeedsSatisfied : {N S : Type 0} → Provider N S → List S → Type 0
+AreAllNeedsSatisfied p picked = All (λ s. AreNeedsSatisfied p (is_among p picked) (p.answers.needs s)) picked

@@ -1,0 +1,4 @@
+pub mod FirstStays
+pub mod NewEachTime
+pub mod TruthLaws
+mod WalkLaws

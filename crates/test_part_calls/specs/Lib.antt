@@ -1,0 +1,6 @@
+pub mod Examples
+pub mod Kinds
+pub mod Met
+pub mod SameLaws
+pub mod Truth
+pub mod Walks

@@ -1,0 +1,7 @@
+//! What the definitions compute: the checker evaluates them, so that a slip in a definition fails here.
+ghost use Rattle.test_part_calls.specs.Examples.{Examples};
+
+/// The worked examples hold of clauses.
+pub fn examples()
+    ensures { Examples }
+{}

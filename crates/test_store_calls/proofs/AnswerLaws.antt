@@ -1,0 +1,131 @@
+-- What a typed call tells: an assignment, a load, a clause that is registered, a decision; and that what is refused
+-- changes nothing.
+use Rattle.std.proofs.Common.{◌≡◌, ℕ, Bool, true, false, cond, not, List, [], ◌∷◌, ◌++◌, Option, None, Some, length, refl, sym, subst, ap, ◌∙◌}
+use Rattle.std.specs.Prelude.{Result, Ok, Err, OnOk, OnErr, IfErr, MatchOption, option_map}
+use Rattle.std.specs.Bool.{beq}
+use Rattle.resolvo_ids.specs.Types.StoreError.{StoreError}
+use Rattle.resolvo_ids.specs.Types.StoreError.TheVariants.{UnknownId}
+use Rattle.resolvo_pool.specs.Types.Requirement.{Requirement}
+use Rattle.resolvo_pool.specs.Provider.{knows_requirement}
+use Rattle.resolvo_clauses.specs.Trail.{Entry, val}
+use Rattle.resolvo_queue.specs.declared.requires_clause.RequiresClause.{RequiresClause}
+use Rattle.resolvo_queue.specs.declared.offer.Offer.{Offer}
+use Rattle.resolvo_store.specs.declared.answers.Assignment.{Assignment}
+use Rattle.resolvo_store.specs.declared.answers.Assignment.TheVariants as Made
+use Rattle.resolvo_store.specs.Answers.{assignment}
+use Rattle.resolvo_store.specs.Command.{Command, Load, Requires, Assign, Decide, LoadedAs, ClauseIs, Already, Clash, Falsified, Refused, is_saturate}
+use Rattle.resolvo_store.specs.Outcome.{adds_clause, assign_reply, assigned, decision, falsified_clause, picked, with_registered}
+use Rattle.resolvo_store.specs.Refusals.{first_refusal}
+use Rattle.resolvo_store.specs.Step.{IsAnswered, Step}
+use Rattle.resolvo_store.specs.Store.{Store, values, lists_of}
+use Rattle.resolvo_store.proofs.CallerLaws.{answered_by_outcome, load_adds_no_clause, assigned_value, clashing_value}
+use Rattle.resolvo_store.proofs.RunLemmas.{has_outcome}
+
+-- whether the variable has the value that was given
+abbrev pub is_given : Assignment → Bool
+is_given Made.Clash = false
+is_given _ = true
+
+-- what is true in any case is true of an error
+pub on_error : {T E : Type 0} (P : Type 0) (r : Result T E) → P → OnErr r P
+on_error P (Ok x) p = tt
+on_error P (Err e) p = p
+
+module _ {N S : Type 0} where
+  -- a command but Saturate that is refused changes nothing
+  pub refused_stays : (old new : Store N S) (c : Command N S) (e : StoreError) → is_saturate c ≡ false → Step old c (Refused e) new → new ≡ old
+  refused_stays old new c e plain step = by_refusal (first_refusal old c) step
+    where
+      by_refusal : (x : Option StoreError) → MatchOption x (IsAnswered old c (Refused e) new) (λ y. (Refused e ≡ Refused y) × (new ≡ old)) → new ≡ old
+      by_refusal None h = (has_outcome old new c (Refused e) plain h).1
+      by_refusal (Some y) h = h.1
+
+  -- after `Already` the variable has the value, as it had before
+  known_value : (old new : Store N S) (v : ℕ) (value : Bool) (clause level : ℕ) → Step old (Assign v value clause level) Already new
+      → values new v ≡ Some value
+  known_value old new v value clause level step =
+      let answer = answered_by_outcome old new (Assign v value clause level) Already refl step (λ h. h) in
+      subst (λ st. values st v ≡ Some value) (sym answer.1) (by_value (values old v) refl answer.0)
+    where
+      entry : Entry
+      entry = record { decision = record { variable = v; value = value; derived_from = clause }; level = level }
+
+      same : (known : Bool) → Already ≡ cond (beq known value) Already Clash → known ≡ value
+      same known = by_both known value
+        where
+          by_both : (a b : Bool) → Already ≡ cond (beq a b) Already Clash → a ≡ b
+          by_both true true h = refl
+          by_both true false h = cc
+          by_both false true h = cc
+          by_both false false h = refl
+
+      by_value : (o : Option Bool) → values old v ≡ o → Already ≡ assign_reply o value → val (assigned o old.trail entry) v ≡ Some value
+      by_value None h e = cc
+      by_value (Some known) h e = h ∙ ap Some (same known e)
+
+  -- what is answered tells the variable's value: it is the one that was given, or else the other one
+  pub given_value : (old new : Store N S) (v : ℕ) (value : Bool) (clause level : ℕ) (made : Assignment)
+      → Step old (Assign v value clause level) (assignment made) new → values new v ≡ Some (cond (is_given made) value (not value))
+  given_value old new v value clause level Made.New step = assigned_value old new v value clause level step
+  given_value old new v value clause level Made.Already step = known_value old new v value clause level step
+  given_value old new v value clause level Made.Clash step = clashing_value old new v value clause level step
+
+  -- ---- loads
+
+  -- one that was accepted adds no clause, whatever its lists are
+  loaded_adds_no_clause : (old new : Store N S) (r : Requirement) → MatchOption (lists_of new r) ⊥ (λ lists. Step old (Load r) (LoadedAs lists) new)
+      → new.requires ≡ old.requires
+  loaded_adds_no_clause old new r kept = by_lists (lists_of new r) kept
+    where
+      by_lists : (o : Option (List (List ℕ))) → MatchOption o ⊥ (λ lists. Step old (Load r) (LoadedAs lists) new) → new.requires ≡ old.requires
+      by_lists None h = absurd h
+      by_lists (Some lists) h = load_adds_no_clause old new r (LoadedAs lists) h
+
+  -- nor does one that was refused
+  pub load_keeps_clauses : {T : Type 0} (old new : Store N S) (r : Requirement) (result : Result T StoreError)
+      → OnOk result (MatchOption (lists_of new r) ⊥ (λ lists. Step old (Load r) (LoadedAs lists) new))
+      → IfErr result (λ e. Step old (Load r) (Refused e) new) → new.requires ≡ old.requires
+  load_keeps_clauses old new r (Ok x) kept refused = loaded_adds_no_clause old new r kept
+  load_keeps_clauses old new r (Err e) kept refused = load_adds_no_clause old new r (Refused e) refused
+
+  -- a refused Load of a requirement that isn't known is refused as that
+  refused_as_unknown : (old new : Store N S) (r : Requirement) (e : StoreError) → Step old (Load r) (Refused e) new
+      → knows_requirement old.provider.universe r ≡ false → e ≡ UnknownId
+  refused_as_unknown old new r e step unknown =
+      by_test (knows_requirement old.provider.universe r) unknown step
+    where
+      by_test : (b : Bool) → b ≡ false
+          → MatchOption (option_map (λ (x : Bool × StoreError). x.1) (cond (not b) (Some (not b, UnknownId)) None))
+          (IsAnswered old (Load r) (Refused e) new) (λ y. (Refused e ≡ Refused y) × (new ≡ old)) → e ≡ UnknownId
+      by_test true h s = cc
+      by_test false h s = (let same : Refused e ≡ Refused UnknownId = s.0 in cc)
+
+  pub unknown_is_refused : {T : Type 0} (old new : Store N S) (r : Requirement) (result : Result T StoreError)
+      → OnOk result (knows_requirement old.provider.universe r ≡ true) → IfErr result (λ e. Step old (Load r) (Refused e) new)
+      → knows_requirement old.provider.universe r ≡ false → result ≡ Err UnknownId
+  unknown_is_refused old new r (Ok x) known refused unknown = (let no : true ≡ false = sym known ∙ unknown in cc)
+  unknown_is_refused old new r (Err e) known refused unknown = ap Err (refused_as_unknown old new r e refused unknown)
+
+  -- ---- clauses and decisions
+
+  -- a clause that requires is registered under the id that it was added under
+  pub registered : (old new : Store N S) (parent : ℕ) (r : Requirement) (clause : ℕ) (conflict : Bool)
+      → Step old (Requires parent r None) (ClauseIs clause conflict) new
+      → new.requires ≡ old.requires ++ (record { parent = parent; requirement = r; condition = None; clause_id = clause }) ∷ []
+  registered old new parent r clause conflict step =
+      let answer = answered_by_outcome old new (Requires parent r None) (ClauseIs clause conflict) refl step (λ h. h) in
+      let id : clause ≡ length old.clauses = let same : ClauseIs clause conflict ≡ ClauseIs (length old.clauses) _ = answer.0 in cc in
+      rw id (ap (λ (st : Store N S). st.requires) answer.1)
+
+  -- where a Decide answers `Falsified`, that is the first falsified clause
+  pub falsified_told : (old new : Store N S) (clause : ℕ) → Step old Decide (Falsified clause) new
+      → option_map (λ c. c.clause_id) (falsified_clause new) ≡ Some clause
+  falsified_told old new clause step =
+      let answer = answered_by_outcome old new Decide (Falsified clause) refl step (λ h. h) in
+      subst (λ (st : Store N S). option_map (λ c. c.clause_id) (falsified_clause st) ≡ Some clause) (sym answer.1)
+      (by_answer (falsified_clause old) (picked old) answer.0)
+    where
+      by_answer : (f : Option RequiresClause) (o : Option Offer) → Falsified clause ≡ decision f o → option_map (λ c. c.clause_id) f ≡ Some clause
+      by_answer (Some c) o h = (let same : Falsified clause ≡ Falsified c.clause_id = h in cc)
+      by_answer None (Some o) h = cc
+      by_answer None None h = cc

@@ -1,0 +1,8 @@
+pub mod AnswerLaws
+pub mod ClauseLaws
+pub mod ExampleProofs
+pub mod LoadLaws
+pub mod PlayLaws
+pub mod SaturatingLaws
+pub mod SaturationProofs
+pub mod StayingLaws
