@@ -2,9 +2,11 @@
 import argparse
 import itertools
 import os
+import re
 import shutil
 import subprocess
 import sys
+import tempfile
 
 HERE = os.path.dirname(os.path.abspath(__file__))
 PROGRAM = os.path.normpath(os.path.join(HERE, "../crates/pick_versions/out/pick_versions"))
@@ -12,7 +14,7 @@ PYTHON = "/usr/bin/python3"
 COLUMNS = "{:24} {:>8} {:>8} {:>6} {:>8}  {:30} {:>8} {:>6} {:>8} {:>14}  {}"
 HEADS = ("index", "versions", "seconds", "MB", "distance", "answer", "libsolv", "MB", "distance", "cadical", "")
 
-# Runs a program for so many processor seconds at most, and writes those that it took, its peak and its exit status as
+# Runs a program for this many processor seconds at most, and writes those that it took, its peak and its exit status as
 # the last line of standard error. A small interpreter of its own does it, since a process begins with the peak of the
 # one that starts it.
 STARTER = """
@@ -36,7 +38,7 @@ class Numbers:
         return (self.last >> 33) % end
 
     def sample(self, end, count):
-        """So many different numbers below the end."""
+        """This many different numbers below the end."""
         found = {}
         while len(found) < count:
             found[self.below(end)] = None
@@ -119,6 +121,8 @@ def run(words, text, limit):
     """
     starter = [sys.executable, "-I", "-S", "-c", STARTER, str(limit), *words]
     done = subprocess.run(starter, input=text, capture_output=True, text=True)
+    if done.returncode:
+        sys.exit(f"{words[0]} can't be run")
     seconds, peak, status = done.stderr.splitlines()[-1].split()
     return None if int(status) < 0 else done.stdout, float(seconds), peak
 
@@ -165,13 +169,34 @@ def by_libsolv(index, limit):
     return (picked_of(lines[1:]) if answer == "found" else None), answer, f"{float(seconds):.3f}", peak
 
 
+def check_share(program, index):
+    """The share of the instructions of `pick` that its check takes, in percent, by callgrind."""
+    with tempfile.TemporaryDirectory() as folder:
+        out = f"{folder}/out"
+        counted = ["valgrind", "--tool=callgrind", f"--callgrind-out-file={out}", program]
+        subprocess.run(counted, input=index.text(), capture_output=True, text=True)
+        listed = subprocess.run(
+            ["callgrind_annotate", "--inclusive=yes", "--threshold=100", out], capture_output=True, text=True
+        )
+    costs = re.findall(r"^ *([\d,]+) .*?\b(picking::(?:finding::pick|search))\b", listed.stdout, re.MULTILINE)
+    whole, search = (
+        max((int(cost.replace(",", "")) for cost, name in costs if name == wanted), default=0)
+        for wanted in ("picking::finding::pick", "picking::search")
+    )
+    return f"{100 * (whole - search) / whole:.0f}" if whole else "?"
+
+
 def measure(about, kinds):
     """Answers the indexes of the kinds that are named on the command line, or all, and prints a line for each."""
-    parser = argparse.ArgumentParser(description=about, formatter_class=argparse.RawDescriptionHelpFormatter)
-    parser.add_argument("--program", default=PROGRAM, help="pick_versions unless given")
-    parser.add_argument("--seconds", type=int, default=60, help="of the processor, for a program: 60 unless given")
-    parser.add_argument("--print", action="store_true", help="prints the indexes, and answers none")
-    parser.add_argument("kinds", nargs="*", metavar="KIND", help=f"some of {', '.join(kinds)}; all unless given")
+    if {"-h", "--help"} & {*sys.argv[1:]}:
+        print(about.strip())
+        return
+    parser = argparse.ArgumentParser(usage=argparse.SUPPRESS, add_help=False)
+    parser.add_argument("--program", default=PROGRAM)
+    parser.add_argument("--seconds", type=int, default=60)
+    parser.add_argument("--print", action="store_true")
+    parser.add_argument("--share", action="store_true")
+    parser.add_argument("kinds", nargs="*")
     given = parser.parse_args()
     if not set(given.kinds) <= set(kinds):
         parser.error("there is no such kind")
@@ -179,8 +204,14 @@ def measure(about, kinds):
     if given.print:
         print("\n".join(index.text() for index in chosen), end="")
         return
-    if not os.access(given.program, os.X_OK):
+    if not os.path.isfile(given.program) or not os.access(given.program, os.X_OK):
         parser.error(f"there is no {given.program}: `rt run < stdin` in crates/pick_versions builds it")
+    if given.share:
+        if not shutil.which("valgrind"):
+            parser.error("the check's share is counted by valgrind")
+        for index in chosen:
+            print(f"{index.title:<24} {check_share(given.program, index):>3} percent", flush=True)
+        return
     print(COLUMNS.format(*HEADS).rstrip())
     sys.exit(any([tell(index, given.program, given.seconds) for index in chosen]))
 

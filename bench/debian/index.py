@@ -1,4 +1,4 @@
-"""An index of small_index, and clauses in the form of DIMACS, of what a request asks for."""
+"""An index of example_index, and clauses in the form of DIMACS, of what a request asks for."""
 import functools
 import itertools
 import re
