@@ -1,3 +1,0 @@
-pub mod Answers
-pub mod Reasons
-pub mod Status

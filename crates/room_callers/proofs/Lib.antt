@@ -1,4 +1,0 @@
-pub mod FirstStays
-pub mod NewEachTime
-pub mod TruthLaws
-mod WalkLaws

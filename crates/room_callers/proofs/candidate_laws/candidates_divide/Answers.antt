@@ -1,7 +1,0 @@
-use Rattle.solver_cache.proofs.CallerLaws
-use Rattle.room_callers.proofs.candidate_laws.candidates_divide.Goals as goal
-
-pub returns : goal.returns
-returns g c =
-    CallerLaws.candidates_divide _ c.args.set g.met.D.SolvableId.SameValue.same
-    (g.met.D.DependencyProvider.order_permutes c.args.provider.now)

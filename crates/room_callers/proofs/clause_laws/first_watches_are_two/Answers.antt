@@ -1,5 +1,0 @@
-use Rattle.clauses.proofs.CallerLaws
-use Rattle.room_callers.proofs.clause_laws.first_watches_are_two.Goals as goal
-
-pub returns : goal.returns
-returns g c = CallerLaws.first_watches_are_two _

@@ -1,7 +1,0 @@
-use Rattle.std.proofs.Common.{◌∙◌, sym}
-use Rattle.room_callers.proofs.NewEachTime.{place_at_end}
-use Rattle.room_callers.proofs.each_kind.SolvablesKind.intern.Goals as goal
-
-pub returns-clause-id : goal.returns-clause-id
-returns-clause-id g c =
-    c.in_ok-intern_solvable.ensures.id ∙ sym (place_at_end c.args.value c.args.pool.now.solvables)

@@ -1,5 +1,0 @@
-use Rattle.decisions.proofs.FloorLaws.{floor_is_least}
-use Rattle.room_callers.proofs.trail_laws.floor_is_least.Goals as goal
-
-pub returns : goal.returns
-returns c = floor_is_least

@@ -1,8 +1,0 @@
--- What is read by the ids of a pool.
-use Rattle.std.specs.Prelude.{List, [], ◌∷◌}
-use Rattle.room_callers.specs.declared.kinds.Seen.{Seen}
-use Rattle.room_callers.specs.declared.kinds.Seen.TheVariants.{One, Row}
-
-abbrev pub parts_of : {T : Type 0} → Seen T → List T
-parts_of (One value) = value.now ∷ []
-parts_of (Row values) = values.now

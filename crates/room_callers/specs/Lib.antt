@@ -1,6 +1,0 @@
-pub mod Examples
-pub mod Kinds
-pub mod Met
-pub mod SameLaws
-pub mod Truth
-pub mod Walks

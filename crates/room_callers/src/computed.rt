@@ -1,7 +1,0 @@
-//! What the definitions compute: the checker evaluates them, so that a slip in a definition fails here.
-ghost use Rattle.room_callers.specs.Examples.{Examples};
-
-/// The worked examples hold of clauses.
-pub fn examples()
-    ensures { Examples }
-{}

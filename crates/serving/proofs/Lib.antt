@@ -1,8 +1,0 @@
-pub mod DecisionLemmas
-pub mod EncodingLemmas
-pub mod Examples
-pub mod FollowsLemmas
-pub mod MemberLemmas
-pub mod ReplayLemmas
-pub mod RestLemmas
-pub mod ServingLemmas

@@ -1,8 +1,0 @@
-use Rattle.std.proofs.Common.{◌≡◌, ◌∷◌, [], rules}
-use Rattle.serving.proofs.DecisionLemmas.{done}
-use Rattle.serving.proofs.clauses.Theory.state.Goals as goal
-
-pub returns : goal.returns
-returns g c =
-    let same : c.push.new.self.items ≡ c.args.literal ∷ [] = search rules in
-    done c.add.result (λ added. record { clause = c.push.new.self; is = same; added = added }) c.add.ensures

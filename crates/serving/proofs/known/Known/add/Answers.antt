@@ -1,6 +1,0 @@
-use Rattle.serving.proofs.FollowsLemmas.{follows_known}
-use Rattle.serving.proofs.known.Known.add.Goals as goal
-
-pub returns-in-Some : goal.returns-in-Some
-returns-in-Some g c =
-    follows_known c.args.literal c.args.self.now.literals.items c.in-Some.value (λ holds true_ones. c.in-Some.ensures holds true_ones)

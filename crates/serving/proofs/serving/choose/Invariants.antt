@@ -1,7 +1,0 @@
-use Rattle.std.proofs.Common.{◌≡◌, take}
-use Rattle.std.specs.List.{list_any}
-use Rattle.serving.proofs.serving.choose.Given as goal
-
-abbrev pub invariant-loop-solvable : goal.invariant-loop-solvable
-invariant-loop-solvable g l =
-    (s : g.row.D-SolvableId.Denot) → g.D.SolvableId.Set.IdSet.has l.picked s ≡ list_any (g.D.SolvableId.PartialEq.eq s) (take l.solvable-index l.solvables)

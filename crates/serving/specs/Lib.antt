@@ -1,3 +1,0 @@
-pub mod Clauses
-pub mod Serves
-pub mod Truth

@@ -1,6 +1,0 @@
-use Rattle.std.proofs.Common.{◌≡◌, ◌+◌}
-use Rattle.small_index.specs.Index.{count_of}
-use Rattle.small_index.proofs.index.SmallIndex.add_lines.Given as goal
-
-abbrev pub invariant-loop-line : goal.invariant-loop-line
-invariant-loop-line l = count_of l.self.versions.items ≡ count_of l.fn.self.versions.items + l.line-index

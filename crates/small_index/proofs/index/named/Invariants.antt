@@ -1,7 +1,0 @@
-use Rattle.std.proofs.Common.{◌≡◌, ◌++◌, drop}
-use Rattle.small_index.specs.Index.{here, of_name}
-use Rattle.small_index.proofs.index.named.Given as goal
-
-abbrev pub invariant-loop-solvable : goal.invariant-loop-solvable
-invariant-loop-solvable l =
-    l.found.items ++ of_name l.pool l.name (here l.pool (drop l.solvable-index l.solvables)) ≡ of_name l.pool l.name (here l.pool l.solvables)

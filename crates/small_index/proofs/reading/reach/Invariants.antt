@@ -1,9 +1,0 @@
-use Rattle.std.proofs.Common.{◌≡◌, ◌≤◌, length}
-use Rattle.small_index.specs.Index.{count_of}
-use Rattle.small_index.proofs.reading.reach.Given as goal
-
-abbrev pub invariant-loop : goal.invariant-loop
-invariant-loop l = record {
-  count : count_of l.lists.items ≡ count_of l.fn.lists.items;
-  longer : l.counter ≤ length l.lists.items;
-}

@@ -1,9 +1,0 @@
-pub mod AnswerLaws
-pub mod ClauseLaws
-pub mod DecisionLaws
-pub mod ExampleProofs
-pub mod LoadLaws
-pub mod PlayLaws
-pub mod SaturatingLaws
-pub mod SaturationProofs
-pub mod StayingLaws
