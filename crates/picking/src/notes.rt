@@ -4,9 +4,6 @@ use resolvo_ids::{ClauseId, IndexedSet, Mapping, VariableId};
 use solutions::PackageLiteral;
 use std::alloc::Allocator;
 
-/// A step counts once more for each time that this many clauses were learnt.
-const LEARNT_PER_STEP: u64 = 1024;
-
 /// What a learnt clause, or a value at level 1, follows from.
 #[derive(Clone, Copy)]
 pub(crate) enum Antecedent {
@@ -60,11 +57,6 @@ impl<S: Copy, A: Allocator + Copy> Notes<S, A> {
             package_literals,
         })?;
         Ok(())
-    }
-
-    /// For how many steps one step counts.
-    pub(crate) fn step_cost(&self) -> u64 {
-        1 + self.learnt.len() as u64 / LEARNT_PER_STEP
     }
 
     /// What a clause follows from; nothing unless it was learnt.

@@ -11,6 +11,10 @@ const UNIT: u64 = 100;
 /// The store's scores are halved each time after this many conflicts.
 const PERIOD: u64 = 8;
 
+/// A conflict counts for one more step for each time that this many came before it: each left a learnt clause, and
+/// propagation takes longer with more of them.
+const CONFLICTS_PER_STEP: u64 = 4096;
+
 /// When the gain is above this, all scores are scaled down.
 const TOP: u64 = 1 << 56;
 
@@ -82,6 +86,8 @@ impl<N: SolverId<A>, A: Allocator + Copy> Scores<N, A> {
 #[derive(Clone, Copy)]
 pub(crate) struct Pace {
     conflicts: u64,
+    /// For how many steps the conflicts count beside their own.
+    extra_steps: u64,
     /// At how many conflicts it restarts.
     next: u64,
     turn: u64,
@@ -93,6 +99,7 @@ impl Pace {
     pub(crate) fn new() -> Self {
         Pace {
             conflicts: 0,
+            extra_steps: 0,
             next: PATIENCE,
             turn: 1,
             length: 1,
@@ -103,7 +110,14 @@ impl Pace {
     /// Counts a conflict. Answers whether the store's scores are to be halved.
     pub(crate) fn count(&mut self) -> bool {
         self.conflicts = self.conflicts.saturating_add(1);
+        let extra = self.conflicts / CONFLICTS_PER_STEP;
+        self.extra_steps = self.extra_steps.saturating_add(extra);
         self.conflicts % PERIOD == 0
+    }
+
+    /// For how many steps the conflicts count beside their own.
+    pub(crate) fn extra_steps(&self) -> u64 {
+        self.extra_steps
     }
 
     /// Whether the store picks the next decision: unless the search decides by scores alone, or a restart is due.

@@ -90,6 +90,7 @@ impl<D: DependencyProvider + Copy> PackageSource<D::NameId, D::SolvableId, D::Al
         if !self.provider.knows_solvable(solvable) {
             return Err(StoreError::UnknownId);
         }
+        self.check_cancelled()?;
         self.provider.get_dependencies(self.alloc, solvable)
     }
 

@@ -119,11 +119,11 @@ impl<T: SearchStore + Drop, P: PackageSource<T::NameId, T::SolvableId, T::Alloc>
     }
 
     /// A step propagates, and encodes what is newly true; then it learns from a conflict, or decides. The more clauses
-    /// were learnt, the longer that takes, and the more it counts. No assignment comes back that a learnt clause rules
-    /// out, so a search ends, but perhaps after very many steps.
+    /// were learnt, the more steps a conflict counts for. No assignment comes back that a learnt clause rules out, so a
+    /// search ends, but perhaps after very many steps.
     fn run(&mut self, steps: u64) -> Result<SearchEnd<T::NameId, T::SolvableId, T::Alloc>> {
-        let mut spent = 0u64;
-        for _ in 0..steps {
+        for step in 0..steps {
+            let spent = step.saturating_add(self.pace.extra_steps());
             if spent >= steps {
                 break;
             }
@@ -140,7 +140,6 @@ impl<T: SearchStore + Drop, P: PackageSource<T::NameId, T::SolvableId, T::Alloc>
                 let picked = self.progress.picked(&self.encoder.candidates)?;
                 return Ok(SearchEnd::Picked(picked));
             }
-            spent = spent.saturating_add(self.notes.step_cost());
         }
         Ok(SearchEnd::StepsUsed)
     }

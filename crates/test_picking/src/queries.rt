@@ -1,7 +1,7 @@
 //! Whose dependencies are queried: by the search, and again by the check of what it found.
 //!
-//! The provider is asked twice whether to stop for each package that a true version names, since the store and the search each ask
-//! for its candidates, and once for each conflict.
+//! The provider is asked whether to stop twice for each package that a true version names, since the store and the
+//! search each query its candidates, once for the dependencies of each solvable, and once for each conflict.
 use crate::indexes::with_versions;
 use crate::seen::{AMPLE, End, search_text};
 use std::test::Fail;
@@ -19,7 +19,7 @@ const CHAIN: &str = "\
 
 /// Shows that without a conflict only picked versions are queried: none of 49 others, and nothing that isn't needed.
 #[test]
-fn without_a_conflict_what_is_picked_is_asked_for(rt: HostRuntime) -> Result<(), Fail> {
+fn without_a_conflict_what_is_picked_is_queried(rt: HostRuntime) -> Result<(), Fail> {
     let index = with_versions(rt.alloc(), CHAIN, "wide", 50)?;
     let seen = search_text(rt.alloc(), &index, AMPLE)?;
     assert_eq!(rt; seen.end, End::Picked(4));
@@ -31,7 +31,7 @@ fn without_a_conflict_what_is_picked_is_asked_for(rt: HostRuntime) -> Result<(),
         seen.again.text.as_str(),
         "wide 50; first 1; second 2; third 1; "
     );
-    assert_eq!(rt; seen.questions, 5 * 2);
+    assert_eq!(rt; seen.questions, 5 * 2 + 4);
     Ok(())
 }
 
@@ -50,9 +50,10 @@ const CONFLICT: &str = "\
     older 1\n\
     idle 1\n";
 
-/// Shows that two conflicts cost two questions more than four, and that `middle` 2, undone with them, costs one.
+/// Shows that two conflicts cost two dependencies more than the four that are picked, and that `middle` 2 is queried
+/// once, though it is undone with them.
 #[test]
-fn what_is_tried_is_asked_for_once(rt: HostRuntime) -> Result<(), Fail> {
+fn what_is_tried_is_queried_once(rt: HostRuntime) -> Result<(), Fail> {
     let seen = search_text(rt.alloc(), CONFLICT, AMPLE)?;
     assert_eq!(rt; seen.end, End::Picked(4));
     assert_eq!(rt;
@@ -63,7 +64,7 @@ fn what_is_tried_is_asked_for_once(rt: HostRuntime) -> Result<(), Fail> {
         seen.again.text.as_str(),
         "left 2; middle 2; right 1; shared 1; "
     );
-    assert_eq!(rt; seen.questions, 4 * 2 + 2);
+    assert_eq!(rt; seen.questions, 4 * 2 + 6 + 2);
     Ok(())
 }
 
@@ -83,7 +84,7 @@ const UNSOLVABLE: &str = "\
 
 /// Shows that the check queries the three that reasons name, of the six that the search queried.
 #[test]
-fn the_check_asks_for_what_is_in_the_reasons(rt: HostRuntime) -> Result<(), Fail> {
+fn the_check_queries_what_is_in_the_reasons(rt: HostRuntime) -> Result<(), Fail> {
     let seen = search_text(rt.alloc(), UNSOLVABLE, AMPLE)?;
     assert_eq!(rt; seen.end, End::Unsolvable);
     assert_eq!(rt;
@@ -91,6 +92,6 @@ fn the_check_asks_for_what_is_in_the_reasons(rt: HostRuntime) -> Result<(), Fail
         "right 1; shared 2; free 2; deep 1; left 2; left 1; "
     );
     assert_eq!(rt; seen.again.text.as_str(), "right 1; left 2; left 1; ");
-    assert_eq!(rt; seen.questions, 5 * 2 + 2);
+    assert_eq!(rt; seen.questions, 5 * 2 + 6 + 2);
     Ok(())
 }

@@ -6,12 +6,12 @@ use std::test::Fail;
 
 /// Shows that a stop ends the search, and after which question.
 ///
-/// The store queries the candidates of nine guests (9), and then the search does (18). The first version that is
-/// decided is queried, and its place's candidates (19). There are 144 versions.
+/// The store queries the candidates of nine guests (9), and then the search does (18). The dependencies of the first
+/// version that is decided follow (19), and its place's candidates (20). There are 144 versions.
 #[test]
 fn a_provider_stops_the_search(rt: HostRuntime) -> Result<(), Fail> {
     let index = holes(rt.alloc(), 8)?;
-    for (question, most) in [(1, 0), (9, 0), (18, 0), (19, 1), (200, 144)] {
+    for (question, most) in [(1, 0), (9, 0), (18, 0), (19, 0), (20, 1), (200, 144)] {
         let bounds = Bounds {
             stop_at: question,
             ..AMPLE
@@ -62,7 +62,8 @@ fn a_provider_stops_the_check(rt: HostRuntime) -> Result<(), Fail> {
 
 /// Shows that steps end the search without a check.
 ///
-/// The candidates of 23 packages are queried twice, and a step has one more question at most.
+/// The candidates of 23 packages are queried twice, the dependencies of 264 versions once, and a step has one more
+/// question at most.
 #[test]
 fn steps_end_the_search(rt: HostRuntime) -> Result<(), Fail> {
     let index = holes(rt.alloc(), 11)?;
@@ -73,6 +74,6 @@ fn steps_end_the_search(rt: HostRuntime) -> Result<(), Fail> {
     let seen = search_text(rt.alloc(), &index, bounds)?;
     assert_eq!(rt; seen.end, End::StepsUsed);
     assert_eq!(rt; seen.again.number, 0);
-    assert!(rt; seen.questions <= 46 + 2000);
+    assert!(rt; seen.questions <= 46 + 264 + 2000);
     Ok(())
 }
