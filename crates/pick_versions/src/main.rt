@@ -1,28 +1,31 @@
 //! An example: a program that picks versions, by the search of `picking`.
 //!
-//! It reads indexes from standard input, in the format of `example_index`. For each it prints the requester, the name of
-//! its first line, and a solution of what that line requires: a line for each version that is picked; or `none` if
-//! there is no solution, and below it why, a line for each thing that is needed or limited there.
+//! It reads indexes from standard input, or from the files that its command line names (`options`), in the format of
+//! `example_index`. For each it prints the requester, the name of its first line, and a solution of what that line
+//! requires: a line for each version that is picked; or `none` if there is no solution, and below it why, a line for
+//! each thing that is needed or limited there. A file that can't be read is named on standard error.
 //! If it gives up, or a line is unreadable, it says so, and goes on with the next index. The first line's own version
 //! is picked only if another one needs it, and what it limits counts only then. The exit status is that of the worst
 //! index: [`Outcome`] has the numbers.
 #![tactic(auto)]
 
+mod options;
+
 ghost use Rattle.std.specs.Prelude.{◌≡◌};
 ghost use Rattle.std.specs.Process.{exit_status};
 ghost use Rattle.example_answers.specs.Status.{status_of};
 
-use anyhow::Result;
+use anyhow::{Result, anyhow};
 use example_answers::Outcome;
+use options::Options;
 use std::alloc::Global;
+use std::fs;
 use std::io::Read;
 use std::process::ExitCode;
-
-/// How many steps a search makes at most.
-const STEPS: u64 = 1 << 20;
+use std::rt::{Files, Runtime};
 
 fn main(rt: HostRuntime) -> ExitCode {
-    match answer_all(&rt, rt.alloc(), &mut rt.reader()) {
+    match obey(&rt) {
         Ok(worst) => exit_code(worst),
         Err(fault) => {
             let _ = eprintln!(rt; "{fault}");
@@ -38,16 +41,75 @@ fn exit_code(worst: Outcome) -> ExitCode
     ExitCode::from(worst.status())
 }
 
-/// Answers each index of the input, with an empty line between one answer and the next. The worst outcome.
-fn answer_all(rt: &impl Print, alloc: Global, reader: &mut impl Read) -> Result<Outcome> {
-    let mut input = Vec::new(alloc);
-    reader.read_to_end(&mut input)?;
+/// Does what the command line says. The worst outcome.
+fn obey(rt: &(impl Runtime + AllocGlobal)) -> Result<Outcome> {
+    let alloc = rt.alloc();
+    let words = std::env::args(rt).map_err(|fault| anyhow!("command line: {fault}"))?;
+    let words: Vec<String> = words.collect(alloc)?;
+    match options::read(alloc, words.as_slice()) {
+        Ok(options) => answer_inputs(rt, alloc, &options),
+        Err(fault) => say(rt, alloc, &fault),
+    }
+}
+
+/// Says why a command line asks for no answers: the help or the version, or the first line of what is wrong with it.
+fn say(rt: &(impl Print + Eprint), alloc: Global, fault: &clap::Error) -> Result<Outcome> {
+    if !fault.use_stderr() {
+        fault.print(rt)?;
+        return Ok(Outcome::Picked);
+    }
+    let text = format!(in alloc; "{fault}")?;
+    eprintln!(rt; "{}", text.as_str().lines().next().unwrap_or(""))?;
+    Ok(Outcome::Failed)
+}
+
+/// Answers what is in the files, or in standard input if there is none. A file that can't be read is named on standard
+/// error, and the next one is answered. The worst outcome.
+fn answer_inputs(
+    rt: &(impl Runtime + AllocGlobal),
+    alloc: Global,
+    options: &Options<'_>,
+) -> Result<Outcome> {
     let mut worst = Outcome::Picked;
-    for (place, lines) in example_index::split(alloc, &input)?.iter().enumerate() {
-        if place > 0 {
+    let mut is_first = true;
+    if options.files.is_empty() {
+        let mut input = Vec::new(alloc);
+        rt.reader().read_to_end(&mut input)?;
+        worst = answer_input(rt, alloc, &input, options.steps, &mut is_first)?;
+    }
+    for file in &options.files {
+        match fs::read(rt, *file) {
+            Ok(input) => worst = worst.worse(answer_input(
+                rt,
+                alloc,
+                &input,
+                options.steps,
+                &mut is_first,
+            )?),
+            Err(fault) => {
+                eprintln!(rt; "{file:?}: {fault}")?;
+                worst = Outcome::Failed;
+            }
+        }
+    }
+    Ok(worst)
+}
+
+/// Answers each index of an input, with an empty line before each answer but the first of all. The worst outcome.
+fn answer_input(
+    rt: &impl Print,
+    alloc: Global,
+    input: &[u8],
+    steps: u64,
+    is_first: &mut bool,
+) -> Result<Outcome> {
+    let mut worst = Outcome::Picked;
+    for lines in &example_index::split(alloc, input)? {
+        if !*is_first {
             println!(rt)?;
         }
-        let answered = example_answers::answer(alloc, lines, STEPS)?;
+        *is_first = false;
+        let answered = example_answers::answer(alloc, lines, steps)?;
         print!(rt; "{}", answered.text)?;
         worst = worst.worse(answered.outcome);
     }
