@@ -34,7 +34,8 @@ pub use Rattle.resolvo_queue.specs.Pick.Inspection.{offer_with}
 pub use Rattle.resolvo_queue.specs.Pick.Questions.{CanInspectAll, AreUpTo, clause_literals, CanInspect}
 pub use Rattle.resolvo_queue.specs.Pick.Ready.{AreLocated, at_position, behind, ColdHasNoScore, improved, IsDone}
 pub use Rattle.resolvo_queue.specs.Pick.Ready.{IsReady, offered, picked_behind, place_of, rest_picked, scanned}
-pub use Rattle.resolvo_queue.specs.Queue.{AgreesBelow, AreNamed, IsWellFormed, IsRegistered, IsSynced, OnlyHotScore, Queue}
+pub use Rattle.resolvo_queue.specs.Queue.{AgreesBelow, AreNamed, IsWellFormed, IsRegistered, IsSynced}
+pub use Rattle.resolvo_queue.specs.Queue.{OnlyHotScore, Queue}
 pub use Rattle.resolvo_queue.specs.Queue.{queue_of, StandsOn, values_of}
 pub use Rattle.resolvo_queue.specs.References.{CanWalk, HasParts, IsWalkable, Lists, literals_in, References}
 pub use Rattle.resolvo_queue.specs.References.{references, score_in}

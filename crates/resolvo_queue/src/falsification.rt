@@ -46,7 +46,8 @@ pub(crate) fn is_earlier<I: Interner, A: Allocator + Copy>(
     question: &FalsifiedQuestion<'_, I, A>,
 ) -> bool
     requires condition { IfSome clause.now.condition (λ d. d < length question.now.disjunctions.now) }
-    requires walkable { IsWalkable (I.universe question.now.interner.now) question.now.lists.now clause.now.requirement }
+    requires walkable { IsWalkable (I.universe question.now.interner.now) question.now.lists.now
+        clause.now.requirement }
     ensures { let refs = refs_of I.universe question.now in
         result ≡ (comes_first clause.now found.now &&
         is_falsified_in refs (values_in question.now.map.now) clause.now) }

@@ -6,12 +6,12 @@ use std::test::Fail;
 
 /// Shows that a stop ends the search, and after which question.
 ///
-/// The store queries the candidates of nine guests (9), and then the search does (18). The dependencies of the first
-/// version that is decided follow (19), and its place's candidates (20). There are 144 versions.
+/// The store queries the candidates of twelve guests (12), and then the search does (24). The dependencies of the first
+/// version that is decided follow (25), and its place's candidates (26). There are 264 versions.
 #[test]
 fn a_provider_stops_the_search(rt: HostRuntime) -> Result<(), Fail> {
-    let index = holes(rt.alloc(), 8)?;
-    for (question, most) in [(1, 0), (9, 0), (18, 0), (19, 0), (20, 1), (200, 144)] {
+    let index = holes(rt.alloc(), 11)?;
+    for (question, most) in [(1, 0), (12, 0), (24, 0), (25, 0), (26, 1), (500, 264)] {
         let bounds = Bounds {
             stop_at: question,
             ..AMPLE

@@ -4,7 +4,8 @@ use Rattle.std.proofs.Common.{Result, Ok, Err, sym, ap, refl, ◌∙◌, subst}
 use Rattle.std.specs.Prelude.{All}
 use Rattle.std.proofs.lemmas.List.{length-map}
 use Rattle.resolvo_queue.proofs.Words.{AreCold, clause_literals, clause_of, ColdLack, counts, has, HasParts, Heats}
-use Rattle.resolvo_queue.proofs.Words.{IdSpace, IsWellFormed, IsListedWell, IsUpdate, KeepsQueued, list_at, names_at, Queue}
+use Rattle.resolvo_queue.proofs.Words.{IdSpace, IsWellFormed, IsListedWell, IsUpdate, KeepsQueued, list_at}
+use Rattle.resolvo_queue.proofs.Words.{names_at, Queue}
 use Rattle.resolvo_queue.proofs.Words.{References, Stands, StandsOn, StoreError, TrackedClause, Values, values_of}
 use Rattle.resolvo_queue.proofs.Words.{variable_of}
 use Rattle.resolvo_queue.specs.References.{rows_in}

@@ -5,7 +5,8 @@ use Rattle.std.proofs.Common.{slice_get, sym, ap, refl, ◌∙◌, subst}
 use Rattle.std.specs.Prelude.{All, OnErr}
 use Rattle.std.proofs.lemmas.List.{take-take}
 use Rattle.resolvo_queue.proofs.Words.{AgreesBelow, AllWokenFrom, AreCold, clause_literals, clause_of, counts, Decision}
-use Rattle.resolvo_queue.proofs.Words.{FindsAll, GrowsBy, has, HasParts, is_among, IsInOrder, IsWellFormed, IsListedWell}
+use Rattle.resolvo_queue.proofs.Words.{FindsAll, GrowsBy, has, HasParts, is_among, IsInOrder, IsWellFormed}
+use Rattle.resolvo_queue.proofs.Words.{IsListedWell}
 use Rattle.resolvo_queue.proofs.Words.{IsOfClause, IsPlaceOf, IsReady, KeepsQueued, known_true, list_at, Listed}
 use Rattle.resolvo_queue.proofs.Words.{listing, Lit, OnlyForgets, Position, Queue, Queued, Record, References}
 use Rattle.resolvo_queue.proofs.Words.{Requirement, Row, SameElsewhere, SameFound, SameValues, Stands, StandsOn}
@@ -63,7 +64,8 @@ order_after_sync {t} {u} clauses by_parent only grows order =
     (λ p e. elim (grows.all_new p e) [ inl was ↦ order.all_of p was | inr new ↦ new ])
     (λ p e. elim (grows.hot_new p e) [ inl was ↦ order.hot_of p was | inr new ↦ new ]) order
 
-module _ {N S A H : Type 0} (has : H → N → Bool) (refs : References N S A) (q q' : Queue N H) (kept : IsWellFormed has q)
+module _ {N S A H : Type 0} (has : H → N → Bool) (refs : References N S A) (q q' : Queue N H)
+    (kept : IsWellFormed has q)
     (stands : StandsOn refs q) (whole : q'.clauses ≡ q.clauses) (clauses : q'.inside.clauses ≡ q.inside.clauses)
     (by_condition : q'.inside.by_condition ≡ q.inside.by_condition) where
   abbrev cs : List TrackedClause

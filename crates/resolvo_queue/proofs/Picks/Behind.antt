@@ -56,7 +56,8 @@ reversed_less : (o p : Ordering) → o ≡ ordering_reverse p → p ≡ Less →
 reversed_less o p e h = ap is_lt (e ∙ ap ordering_reverse h)
 
 module _ {X K : Type 0} (cmp : K → K → Ordering) (key : X → K) where
-  pub below_all : (x : X) (xs : List X) → AllByRecursion (λ k. cmp (key x) k ≡ Less) (map key xs) → (y : X) → Stands y xs →
+  pub below_all : (x : X) (xs : List X) → AllByRecursion (λ k. cmp (key x) k ≡ Less) (map key xs) → (y : X) →
+      Stands y xs →
       cmp (key x) (key y) ≡ Less
   below_all x [] a z s = elim s [ ]
   below_all x (y ∷ ys) a z here = a.0

@@ -11,7 +11,8 @@ use Rattle.resolvo_queue.proofs.Words.{add_parent, AllByRecursion, first_from, h
 use Rattle.resolvo_queue.proofs.Words.{nat_cmp, numbered, numbered_of, numbered_scan, Ordering, ordering_then}
 use Rattle.resolvo_queue.proofs.Words.{parents_in, position_in, Stands, there}
 use Rattle.resolvo_queue.proofs.Picks.Behind.{Ascends}
-use Rattle.resolvo_queue.proofs.Lists.{append_left, append_right, filter_stands, same_some, stands_append, stands_filter}
+use Rattle.resolvo_queue.proofs.Lists.{append_left, append_right, filter_stands, same_some, stands_append}
+use Rattle.resolvo_queue.proofs.Lists.{stands_filter}
 
 module _ {C : Type 0} (parent : C → ℕ) where
   -- the scan of the clauses

@@ -8,7 +8,8 @@ use Rattle.resolvo_queue.proofs.Words.{IsListedWell, IsPlaceOf, known_at, list_r
 use Rattle.resolvo_queue.proofs.Words.{lists_or_none, ListsKnown, ListsOnly, loaded_rows, lookup, OnlyForgets, OwesSame}
 use Rattle.resolvo_queue.proofs.Words.{Record, Requirement, Row, rows, same_requirement, SameFound, sets_of, Stands}
 use Rattle.resolvo_queue.proofs.Words.{there, Universe, updated_at, VersionSetId, walked}
-use Rattle.resolvo_queue.proofs.Lists.{append_left, append_right, contains_if_stands, differ, same_some, stands_if_contains}
+use Rattle.resolvo_queue.proofs.Lists.{append_left, append_right, contains_if_stands, differ, same_some}
+use Rattle.resolvo_queue.proofs.Lists.{stands_if_contains}
 use Rattle.resolvo_queue.proofs.Clauses.Records.{was_at}
 
 -- a requirement that has a candidate has lists

@@ -10,7 +10,8 @@ use Rattle.std.proofs.lemmas.List.Sums.{fold-append}
 use Rattle.resolvo_queue.proofs.Words.{all_false, AllByRecursion, AllFalse, AreUnionSetsKnown, counted, Frontier}
 use Rattle.resolvo_queue.proofs.Words.{frontier, frontier_at, has_true_row, is_undecided_row, known_false, known_true}
 use Rattle.resolvo_queue.proofs.Words.{knows_requirement, list_all, list_rows, lists_loaded, lists_or_none, loaded_rows}
-use Rattle.resolvo_queue.proofs.Words.{lookup, Satisfied, Requirement, Row, rows, RowState, same_requirement, sets_of, Single}
+use Rattle.resolvo_queue.proofs.Words.{lookup, Satisfied, Requirement, Row, rows, RowState}
+use Rattle.resolvo_queue.proofs.Words.{same_requirement, sets_of, Single}
 use Rattle.resolvo_queue.proofs.Words.{state_of, Undecided, undecided, Union, Universe, unmet_state, Values, Vec}
 use Rattle.resolvo_queue.proofs.Words.{VersionSetId, with_row, with_rows}
 
@@ -25,7 +26,8 @@ module _ (val : Values) where
   met-rows [] = refl
   met-rows (r ∷ rs) = go (val r.variable) (met-rows rs)
     where
-      go : (v : Option Bool) → with_rows val Satisfied rs ≡ Satisfied → with_rows val (with_row Satisfied v r) rs ≡ Satisfied
+      go : (v : Option Bool) → with_rows val Satisfied rs ≡ Satisfied
+          → with_rows val (with_row Satisfied v r) rs ≡ Satisfied
       go None e = e
       go (Some true) e = e
       go (Some false) e = e
@@ -45,7 +47,8 @@ module _ (val : Values) where
   -- behind an undecided row the walk counts
   undecided-rows : (v : ℕ) (set : VersionSetId) (n : ℕ) (rs : List Row) →
       with_rows val (Undecided (record { variable = v; set = set; count = n })) rs
-      ≡ cond (has_true_row val rs) Satisfied (Undecided (record { variable = v; set = set; count = count_from set n rs }))
+      ≡ cond (has_true_row val rs) Satisfied
+      (Undecided (record { variable = v; set = set; count = count_from set n rs }))
   undecided-rows v set n [] = refl
   undecided-rows v set n (r ∷ rs) = go (val r.variable) (λ m. undecided-rows v set m rs)
     where
@@ -155,7 +158,8 @@ module _ (val : Values) where
       sym (ap (with_rows val state) (no_rows sets)) ∙ (sym (ap (λ ls. with_rows val state (rows sets ls)) e) ∙ h)
 
   -- a list that leads to a true row
-  pub met-whole : (whole next : RowState) (rs : List Row) → next ≡ Satisfied → with_rows val next rs ≡ whole → Satisfied ≡ whole
+  pub met-whole : (whole next : RowState) (rs : List Row) → next ≡ Satisfied → with_rows val next rs ≡ whole
+      → Satisfied ≡ whole
   met-whole whole next rs e h = sym (met-rows rs) ∙ (sym (ap (λ t. with_rows val t rs) e) ∙ h)
 
   -- the rows of a list are counted with those before, and so few are left

@@ -11,7 +11,8 @@ use Rattle.resolvo_queue.proofs.Words.{Frontier, GrowsBy, HasNoPlace, here, IsOf
 use Rattle.resolvo_queue.proofs.Words.{list_at, OnlyForgets, Queued, Record, Requirement, Routes, same_requirement}
 use Rattle.resolvo_queue.proofs.Words.{Stands, there, Unrouted, updated_at, variables_of, WakesForgotten, walk_of, Ways}
 use Rattle.resolvo_queue.proofs.Rows.Occurrences.{same_self}
-use Rattle.resolvo_queue.proofs.Lists.{append_left, append_right, read_stands, same_or_not, same_some, stands_append, stands_cases}
+use Rattle.resolvo_queue.proofs.Lists.{append_left, append_right, read_stands, same_or_not, same_some}
+use Rattle.resolvo_queue.proofs.Lists.{stands_append, stands_cases}
 use Rattle.resolvo_queue.proofs.Syncs.Queued.{woken_stays, grows_none, grows_both}
 use Rattle.resolvo_queue.proofs.Clauses.Records.{was_at, is_at_place, is_elsewhere}
 

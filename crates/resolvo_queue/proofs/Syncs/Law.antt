@@ -41,7 +41,8 @@ condition_routed v w routed same (l ∷ ls) e f = go (routed (variable_of l)) re
 
 -- what is known of rows stays right where it and they stay
 pub right_kept : (val : Values) (rs rs' : List Row) (known known' : Known) → known' ≡ known →
-    (is_some known ≡ true → rs' ≡ rs) → IfSome known (λ f. f ≡ frontier val rs) → IfSome known' (λ f. f ≡ frontier val rs')
+    (is_some known ≡ true → rs' ≡ rs) → IfSome known (λ f. f ≡ frontier val rs)
+    → IfSome known' (λ f. f ≡ frontier val rs')
 right_kept val rs rs' None known' e rows right = subst (λ k. IfSome k (λ f. f ≡ frontier val rs')) (sym e) tt
 right_kept val rs rs' (Some g) known' e rows right =
     subst (λ k. IfSome k (λ f. f ≡ frontier val rs')) (sym e) (right ∙ ap (frontier val) (sym (rows refl)))
@@ -91,4 +92,5 @@ module _ (before now : Values) (routed : ℕ → Bool) (same : SameElsewhere rou
       go false b m p q r = by_parent p
       go true false m p q r = by_condition (condition_routed before now routed same ls q met)
       go true true false p q r = by_requirement (was known r) (forgotten r)
-      go true true true p q r = kept (old (all_of counted (are_literals_false before ls) (may_have_frontier known) p q r))
+      go true true true p q r =
+          kept (old (all_of counted (are_literals_false before ls) (may_have_frontier known) p q r))

@@ -5,7 +5,8 @@ use Rattle.std.proofs.Common.{ap, ap₂, refl, ◌∙◌, subst, arith, nat_cmp,
 use Rattle.std.proofs.lemmas.Bool.Decides.{nat_tests}
 use Rattle.std.proofs.lemmas.Cmp.{on_total, then_total}
 use Rattle.std.proofs.lemmas.List.{take_more}
-use Rattle.resolvo_queue.proofs.Words.{AllWokenFrom, AreWoken, GrowsBy, HaveNumbers, IsOfClause, IsQueued, IsTotalOrder, IsWoken}
+use Rattle.resolvo_queue.proofs.Words.{AllWokenFrom, AreWoken, GrowsBy, HaveNumbers, IsOfClause, IsQueued}
+use Rattle.resolvo_queue.proofs.Words.{IsTotalOrder, IsWoken}
 use Rattle.resolvo_queue.proofs.Words.{known_true, nat_cmp_total, ordering_then, Position, position_cmp, Queued}
 use Rattle.resolvo_queue.proofs.Words.{same_position, there, TrackedClause, Values}
 use Rattle.resolvo_queue.proofs.Lists.{same_some, stands_cases}

@@ -1,9 +1,11 @@
 -- Routing the changed variables keeps a queue synced: the code's routing meets the law of a sync.
-use Rattle.std.proofs.Common.{◌≡◌, ℕ, zero, suc, map, take, ◌<◌, Bool, true, false, arith, ◌&&◌, ◌||◌, eqb, eqb-true, ltb-true}
+use Rattle.std.proofs.Common.{◌≡◌, ℕ, zero, suc, map, take, ◌<◌, Bool, true, false, arith, ◌&&◌, ◌||◌, eqb}
+use Rattle.std.proofs.Common.{eqb-true, ltb-true}
 use Rattle.std.proofs.Common.{◌⊎◌, inl, inr, List, [], ◌∷◌, Option, Some, None, IfSome, is_some, slice_get}
 use Rattle.std.proofs.Common.{sym, ap, refl, ◌∙◌, subst}
 use Rattle.std.specs.Prelude.{nat_lt}
-use Rattle.resolvo_queue.proofs.Words.{AllWokenFrom, are_literals_false, counts, FindsAll, forgotten, frontier, HaveNumbers, here}
+use Rattle.resolvo_queue.proofs.Words.{AllWokenFrom, are_literals_false, counts, FindsAll, forgotten}
+use Rattle.resolvo_queue.proofs.Words.{frontier, HaveNumbers, here}
 use Rattle.resolvo_queue.proofs.Words.{is_among, is_false_literal, IsOfClause, KeepsQueued, Known, known_at}
 use Rattle.resolvo_queue.proofs.Words.{known_false, known_true, ListsKnown, Lit, may_have_frontier, Neg, Pos, Queued}
 use Rattle.resolvo_queue.proofs.Words.{Record, Requirement, Routes, Row, rows_at, SameElsewhere, Stands, SyncsTo, there}

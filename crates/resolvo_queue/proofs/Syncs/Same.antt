@@ -23,7 +23,8 @@ module _ (cs : List TrackedClause) (literals literals' : TrackedClause → List 
       (same_rows : (k : ℕ) → is_some (known_at ts k) ≡ true → rows_at rows_of' ts' k ≡ rows_at rows_of ts k)
       (grows : GrowsBy New q q') where
     was_possible : (n : ℕ) (c : TrackedClause) → slice_get cs n ≡ Some c →
-        is_possible literals' counted' val (known_at ts') c ≡ true → is_possible literals counted val (known_at ts) c ≡ true
+        is_possible literals' counted' val (known_at ts') c ≡ true
+        → is_possible literals counted val (known_at ts) c ≡ true
     was_possible n c e h =
         sym (ap₂ (λ a ls. a && (are_literals_false val ls && may_have_frontier (known_at ts' c.record)))
         (same_counts n c e) (same_literals n c e)

@@ -16,7 +16,9 @@ abbrev pub may_have_frontier : Known → Bool
 may_have_frontier None = true
 may_have_frontier (Some f) = is_some f
 
--- the clause may be eligible, as far as is known of each record's requirement; `counted` says whose parents count as true
-abbrev pub is_possible : (TrackedClause → List Lit) → (TrackedClause → Bool) → Values → (ℕ → Known) → TrackedClause → Bool
+-- the clause may be eligible, as far as is known of each record's requirement; `counted` says whose parents count as
+-- true
+abbrev pub is_possible : (TrackedClause → List Lit) → (TrackedClause → Bool) → Values → (ℕ → Known)
+    → TrackedClause → Bool
 is_possible literals counted val known c =
     counted c && (are_literals_false val (literals c) && may_have_frontier (known c.record))

@@ -50,7 +50,7 @@ module _ (clauses : List TrackedClause) (literals : TrackedClause → List Lit) 
 abbrev pub counts : Values → (woken : ℕ) → TrackedClause → Bool
 counts val woken c = nat_lt c.position.number woken && known_true (val c.parent)
 
--- a queue whose clauses below a number are woken, and that was synced at the values of before, is synced at those of now,
+-- a queue whose clauses below a number are woken, and that was synced at earlier values, is synced at those of now,
 -- whatever the literals and the rows are, if the values differ at routed variables alone; anew, it is whatever it was
 abbrev pub SyncsTo : (clauses : List TrackedClause) (by_parent by_condition : List (List ℕ))
     (listing : ℕ → List Requirement) (woken : ℕ) (anew : Bool) (before now : Values) (routed : List ℕ)

@@ -24,7 +24,8 @@ improve-requires-clause-of g c =
     rival_of on c.loop-first.invariant.decidable refl c.args.group c.in-Some.first c.in-Some.ensures.none
 
 pub improve-requires-clause-decidable : goal.improve-requires-clause-decidable
-improve-requires-clause-decidable g c = asked_by (sym c.loop-first.invariant.walks.lists) c.loop-first.invariant.decidable
+improve-requires-clause-decidable g c =
+    asked_by (sym c.loop-first.invariant.walks.lists) c.loop-first.invariant.decidable
 
 pub returns-in_err-improve-clause-decidable : goal.returns-in_err-improve-clause-decidable
 returns-in_err-improve-clause-decidable g c = asked_by c.loop-first.invariant.walks.lists c.improve.ensures.decidable
@@ -46,7 +47,8 @@ loop-first-preserved g c =
     let walks = c.loop-first.invariant.walks in
     record {
       picked = c.loop-first.invariant.picked
-          ∙ rival_passed on c.loop-first.invariant.decidable walks.index c.args.group c.in-Some.first c.in-Some.ensures.none
+          ∙ rival_passed on c.loop-first.invariant.decidable walks.index c.args.group c.in-Some.first
+          c.in-Some.ensures.none
           c.requires.decidable.located c.requires.cold c.args.question.now.largest c.requires.largest
           c.loop-first.best.offer c.loop-first.cursor c.in-Some.ensures.behind c.in-Some.ensures.least
           looked walks.index walks.lists c.improve.new.best.offer c.in_ok-improve.ensures.better;
@@ -64,7 +66,8 @@ improve-requires-in-Some-second-clause-of g c =
     let next : IsNextOf c.args.group (set_of looked.only_hot looked.queued) c.in-Some.first c.in-Some-second.position =
     subst (λ o. IfSome o (λ p. IsNextOf c.args.group (set_of looked.only_hot looked.queued) c.in-Some.first p))
     c.in-Some-second.is c.in-Some.ensures.next in
-    rival_of on c.loop-first.invariant.decidable (sym c.improve.ensures.walks.index) c.args.group c.in-Some-second.position
+    rival_of on c.loop-first.invariant.decidable (sym c.improve.ensures.walks.index) c.args.group
+    c.in-Some-second.position
     next.there
 
 pub improve-requires-in-Some-second-clause-decidable : goal.improve-requires-in-Some-second-clause-decidable
@@ -116,7 +119,8 @@ loop-first-preserved-in-Some-second g c =
           c.requires.largest c.loop-first.best.offer c.loop-first.cursor c.in-Some.ensures.behind
           c.in-Some.ensures.least looked before.index before.lists c.improve.new.best.offer
           c.in_ok-improve.ensures.better
-          ∙ rival_passed on c.loop-first.invariant.decidable before.index c.args.group c.in-Some-second.position next.there
+          ∙ rival_passed on c.loop-first.invariant.decidable before.index c.args.group c.in-Some-second.position
+          next.there
           c.requires.decidable.located c.requires.cold c.args.question.now.largest c.requires.largest
           c.improve.new.best.offer c.in-Some.first next.behind next.least c.improve.new.tracked walks.index walks.lists
           c.improve-in-Some-second.new.best.offer c.in_ok-improve-2.ensures.better);

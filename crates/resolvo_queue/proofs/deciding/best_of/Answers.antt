@@ -5,7 +5,8 @@ use Rattle.resolvo_queue.proofs.Picks.Ready.{match_some}
 use Rattle.resolvo_queue.proofs.deciding.best_of.Goals as goal
 
 pub best_from-requires-clause-decidable : goal.best_from-requires-clause-decidable
-best_from-requires-clause-decidable g c = asked_by (sym c.first_eligible.ensures.walks.lists) c.first_eligible.ensures.decidable
+best_from-requires-clause-decidable g c =
+    asked_by (sym c.first_eligible.ensures.walks.lists) c.first_eligible.ensures.decidable
 
 pub returns-in-Some-clause-best : goal.returns-in-Some-clause-best
 returns-in-Some-clause-best g c =

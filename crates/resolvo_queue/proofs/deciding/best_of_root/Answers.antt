@@ -9,7 +9,8 @@ pub returns-in-Some-clause-best : goal.returns-in-Some-clause-best
 returns-in-Some-clause-best g c =
     let on = grounds g.I.Interner.universe g.I.NameId.Scores.IdMap.value_at c.args.question.now c.args.reader.now in
     subst (λ best. IfOk c.best_of.result (λ o. o ≡ best))
-    (best_of_group c.args.tracked.now.index.clauses.items c.requires.decidable.located c.args.tracked.now.index.by_parent
+    (best_of_group c.args.tracked.now.index.clauses.items c.requires.decidable.located
+    c.args.tracked.now.index.by_parent
     c.requires.decidable.first (offers_on on) (offers_own on.val (clause_literals on.refs) (rows_in on.refs) on.score)
     c.group_of.result c.in-Some.of_root (subst (λ root. c.group_of.result ≡ option_map OfParent
     (slice_get (list_at c.args.tracked.now.index.by_parent root) 0)) c.root.ensures c.group_of.ensures)

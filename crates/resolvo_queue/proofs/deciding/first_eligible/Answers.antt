@@ -67,7 +67,8 @@ pub returns-in-Some-2-clause-walks : goal.returns-in-Some-2-clause-walks
 returns-in-Some-2-clause-walks g c = only_walks_along c.loop-position.invariant.walks c.inspect_at.ensures.walks
 
 pub returns-in_err-frontier-clause-decidable : goal.returns-in_err-frontier-clause-decidable
-returns-in_err-frontier-clause-decidable g c = asked_by c.loop-position.invariant.walks.lists c.inspect_at.ensures.decidable
+returns-in_err-frontier-clause-decidable g c =
+    asked_by c.loop-position.invariant.walks.lists c.inspect_at.ensures.decidable
 
 pub returns-in_err-frontier-clause-walks : goal.returns-in_err-frontier-clause-walks
 returns-in_err-frontier-clause-walks g c = only_walks_along c.loop-position.invariant.walks c.inspect_at.ensures.walks

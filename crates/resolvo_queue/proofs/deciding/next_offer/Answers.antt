@@ -5,7 +5,8 @@ use Rattle.resolvo_queue.proofs.Picks.Unbeaten.{picks_of_all, picks_of_root}
 use Rattle.resolvo_queue.proofs.deciding.next_offer.Goals as goal
 
 pub best_of-requires-clause-decidable : goal.best_of-requires-clause-decidable
-best_of-requires-clause-decidable g c = asked_by (sym c.best_of_root.ensures.walks.lists) c.best_of_root.ensures.decidable
+best_of-requires-clause-decidable g c =
+    asked_by (sym c.best_of_root.ensures.walks.lists) c.best_of_root.ensures.decidable
 
 pub returns-in-Some-clause-picked : goal.returns-in-Some-clause-picked
 returns-in-Some-clause-picked g c =
