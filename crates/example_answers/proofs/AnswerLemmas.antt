@@ -5,9 +5,9 @@ use Rattle.resolvo_pool.specs.Functions.{Provider}
 use Rattle.resolvo_pool.specs.Texts.{Texts}
 use Rattle.resolvo_pool.specs.Types.ConditionalRequirement.{ConditionalRequirement}
 use Rattle.solutions.specs.Solutions.{IsUnsolvable}
-use Rattle.picking.specs.Answers.{IsComplete}
+use Rattle.picking.specs.Answers.{FindsNone}
 use Rattle.picking.specs.declared.finding.Answer.{Answer}
-use Rattle.picking.specs.declared.finding.Answer.TheVariants.{Unsolvable}
+use Rattle.picking.specs.declared.finding.Answer.TheVariants as Search
 use Rattle.picking.specs.declared.reason.Reason.{Reason}
 use Rattle.example_answers.specs.Answers.{IsAnswer, IsAnswerOf, SaysNoSolution, SaysSolution}
 use Rattle.example_answers.specs.declared.outcome.Outcome.{Outcome}
@@ -27,7 +27,7 @@ of_some functions texts first requester is index Failed text h = h
 
 -- if a search for what is required says that there is no solution, there is none
 pub none_is_unsolvable : {N S A : Type 0} (p : Provider N S) (requested required : List ConditionalRequirement)
-    (answer : Answer N S A) (reasons : Vec (Reason N S) A) → answer ≡ Unsolvable reasons → requested ≡ required
-    → IsComplete p requested answer → IsUnsolvable p required
-none_is_unsolvable p requested required answer reasons is same complete =
-    subst (λ w. IsUnsolvable p w) same (subst (λ a. IsComplete p requested a) is complete)
+    (answer : Answer N S A) (reasons : Vec (Reason N S) A) → answer ≡ Search.Unsolvable reasons → requested ≡ required
+    → FindsNone p requested answer → IsUnsolvable p required
+none_is_unsolvable p requested required answer reasons is same none =
+    subst (λ w. IsUnsolvable p w) same (subst (λ a. FindsNone p requested a) is none)

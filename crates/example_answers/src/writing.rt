@@ -32,8 +32,8 @@ pub(crate) fn write_answer<D: DependencyProvider>(
     text.push_str(":\n")?;
     let requested = requested(alloc, provider, requester)?;
     match pick(alloc, provider, &requested, steps)? {
-        Answer::Picked(solvables) => {
-            write_picked(provider, &solvables, text)?;
+        Answer::Picked(choice) => {
+            write_picked(provider, &choice.solvables, text)?;
             Ok(Outcome::Picked)
         }
         Answer::Unsolvable(reasons) => {
@@ -42,14 +42,14 @@ pub(crate) fn write_answer<D: DependencyProvider>(
             Ok(Outcome::NoSolution)
         }
         Answer::Uncertified(reasons) => {
-            text.push_str("gave up: that nothing serves isn't shown\n")?;
+            text.push_str("gave up: that there is no solution isn't shown\n")?;
             write_reasons(provider, requester, &reasons, text)?;
             Ok(Outcome::GaveUp)
         }
         Answer::StepsUsed => end(text, "gave up: too many steps\n", Outcome::GaveUp),
         Answer::NotASolution => end(
             text,
-            "gave up: what was found doesn't serve\n",
+            "gave up: what was found is no solution\n",
             Outcome::GaveUp,
         ),
     }

@@ -2,14 +2,15 @@
 use Rattle.std.specs.Prelude.{◌≡◌, ℕ, ◌++◌, ◌==◌, Bool, true, ◌&&◌, All, nat_le, nat_lt, List, [], Option, None, Some}
 use Rattle.std.specs.Prelude.{length, slice_get, unwrap_or, option_map, filter, codes, decimal}
 use Rattle.std.specs.List.{sum_by}
-use Rattle.std.specs.declared.vec.Vec.{Vec}
 use Rattle.std.proofs.lemmas.List.Elements.{All-filter, filter_passes}
+use Rattle.resolvo_ids.specs.Types.StringId.{StringId}
 use Rattle.resolvo_ids.specs.Types.VersionSetId.{VersionSetId}
 use Rattle.resolvo_pool.specs.Dependencies.{Needs, Known}
 use Rattle.resolvo_pool.specs.Pool.{Lists}
 use Rattle.resolvo_pool.specs.PoolIds.{solvable_name_in}
 use Rattle.resolvo_pool.specs.Types.KnownDependencies.{KnownDependencies}
 use Rattle.resolvo_pool.specs.Types.Solvable.{Solvable}
+use Rattle.example_index.specs.declared.packages.Package.{Package}
 use Rattle.example_index.specs.declared.range.VersionRange.{VersionRange}
 
 -- as 1..3
@@ -43,18 +44,26 @@ module _ {N : Type 0} (pool : Lists N VersionRange ℕ) where
       All (λ s. nat_lt s (length pool.solvables) ≡ true) (of_name name (here solvables))
   named_known name solvables = All-filter _ (λ s. nat_lt s (length pool.solvables) ≡ true) _ (filter_passes _ solvables)
 
--- the versions in a list; none if there is no list
-abbrev pub versions_or_none : {A : Type 0} → Option (Vec ℕ A) → List ℕ
-versions_or_none None = []
-versions_or_none (Some list) = list.items
+-- what is answered of a package; nothing if there is none
+abbrev pub versions_of : Option Package → List ℕ
+versions_of None = []
+versions_of (Some p) = p.versions.items
 
--- the versions at a name's place
-abbrev pub versions_at : {A : Type 0} → List (Vec ℕ A) → ℕ → List ℕ
-versions_at lists name = versions_or_none (slice_get lists name)
+abbrev pub favored_of : Option Package → Option ℕ
+favored_of None = None
+favored_of (Some p) = p.favored
+
+abbrev pub locked_of : Option Package → Option ℕ
+locked_of None = None
+locked_of (Some p) = p.locked
+
+abbrev pub excluded_of : Option Package → List (ℕ × StringId)
+excluded_of None = []
+excluded_of (Some p) = p.excluded.items
 
 -- how many versions there are
-abbrev pub count_of : {A : Type 0} → List (Vec ℕ A) → ℕ
-count_of lists = sum_by (λ list. length list.items) lists
+abbrev pub count_of : List Package → ℕ
+count_of packages = sum_by (λ (p : Package). length p.versions.items) packages
 
 -- what the solvable at this place of the list needs; nothing if there is none
 abbrev pub needs_at : {A : Type 0} → List (KnownDependencies A) → ℕ → Needs

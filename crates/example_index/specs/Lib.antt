@@ -1,2 +1,3 @@
 pub mod Index
+pub mod Package
 pub mod Reading

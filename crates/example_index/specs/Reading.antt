@@ -5,7 +5,7 @@ use Rattle.example_index.specs.declared.fault.IndexFault.TheVariants.{Unreadable
 use Rattle.example_index.specs.declared.line.Line.{Line}
 use Rattle.example_index.specs.declared.line.Words.{Words}
 
--- words of the same line are left, and no more than there were
+-- a part of the same line is left, and no more than there was
 abbrev pub IsFurther : Words → Words → Type 0
 IsFurther old new = (new.number ≡ old.number) × (length new.rest.now ≤ length old.rest.now)
 

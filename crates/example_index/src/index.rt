@@ -1,5 +1,5 @@
 //! The provider: what an index answers as an interner, in its first half, and as a provider, in its second.
-ghost use Rattle.std.specs.Prelude.{◌≡◌, ◌<◌, true, All, None, length, reverse};
+ghost use Rattle.std.specs.Prelude.{◌≡◌, ◌<◌, true, All, length, reverse, slice_get};
 ghost use Rattle.std.specs.Prelude.{string_bytes, decimal, IfOk, IfErr, OnOk, OnErr};
 ghost use Rattle.resolvo_ids.specs.Types.StoreError.TheVariants.{OutOfMemory};
 ghost use Rattle.resolvo_pool.specs.Pool.{IsOfItself};
@@ -8,6 +8,7 @@ ghost use Rattle.resolvo_pool.specs.Provider.{filtered};
 ghost use Rattle.resolvo_pool.specs.Texts.{IsAppended, IsSameText};
 ghost use Rattle.example_index.specs.Index.{here, of_name, is_within, version_in};
 
+use crate::packages::Package;
 use crate::range::VersionRange;
 use resolvo_ids::{
     ConditionId, DenseIndex, NameId, SolvableId, StoreError, StringId, VersionSetId,
@@ -23,10 +24,10 @@ use std::alloc::Global;
 pub struct SmallIndex {
     /// What the text's words are copied with.
     pub(crate) alloc: Global,
-    /// Names, versions, ranges and conditions, each by its id.
+    /// Names, versions, ranges, conditions and the reasons of exclusions, each by its id.
     pub(crate) pool: Pool<VersionRange>,
-    /// The versions of each package, at its name's place, in the order of their lines. A later one is the better.
-    pub(crate) versions: Vec<Vec<SolvableId>>,
+    /// Each package, at its name's place.
+    pub(crate) packages: Vec<Package>,
     /// What each solvable needs, at its place.
     pub(crate) needs: Vec<KnownDependencies>,
     ghost of_itself: { IsOfItself pool } by { Prim.hlevel pool_props },
@@ -128,19 +129,24 @@ fn append(out: &mut String, text: &str) -> Result<(), StoreError>
 
 impl DependencyProvider for SmallIndex {
     ghost use Rattle.std.proofs.lemmas.List.Sorted.{IsPermutation-reverse};
-    ghost use Rattle.example_index.specs.Index.{range_in, versions_at, needs_at, named_known};
+    ghost use Rattle.example_index.specs.Index.{range_in, versions_of, favored_of, locked_of, excluded_of, needs_at};
+    ghost use Rattle.example_index.specs.Index.{named_known};
 
     type Cancel = ();
 
     ghost answers = { λ index. record {
-      candidates = λ name. of_name index.pool name (here index.pool (versions_at index.versions.items name));
+      candidates = λ name. of_name index.pool name
+          (here index.pool (versions_of (slice_get index.packages.items name)));
       matches = λ set s. is_within (range_in index.pool set) (version_in index.pool s);
-      favored = λ name. None;
+      favored = λ name. favored_of (slice_get index.packages.items name);
+      locked = λ name. locked_of (slice_get index.packages.items name);
+      excluded = λ name. excluded_of (slice_get index.packages.items name);
       order = λ list. reverse list;
       needs = λ s. needs_at index.needs.items s;
     } };
 
-    ghost candidates_known = { λ index name. named_known index.pool name (versions_at index.versions.items name) };
+    ghost candidates_known = { λ index name.
+        named_known index.pool name (versions_of (slice_get index.packages.items name)) };
 
     ghost order_permutes = { λ index list. IsPermutation-reverse list };
 
@@ -161,8 +167,11 @@ impl DependencyProvider for SmallIndex {
         name: NameId,
     ) -> Result<Option<Candidates<SolvableId>>, StoreError> {
         let mut found = Candidates::new(alloc);
-        if let Some(versions) = self.versions.get(name.to_index()) {
-            found.candidates = named(alloc, &self.pool, versions, name)?;
+        if let Some(package) = self.packages.get(name.to_index()) {
+            found.candidates = named(alloc, &self.pool, &package.versions, name)?;
+            found.favored = package.favored;
+            found.locked = package.locked;
+            found.excluded.extend_from_slice(&package.excluded)?;
         }
         Ok(Some(found))
     }

@@ -3,7 +3,8 @@
 //!     # a comment
 //!     a 1 needs b 1..3
 //!     a 2 needs b 2..4 if c 1..2 needs d 1..9 | e 1..9
-//!     b 2 limits c 1..2
+//!     b 2 favored limits c 1..2
+//!     b 3 excluded "broken"
 //!
 //! docs/INDEX.md has the format. A text may have several indexes, with lines without words between one and the next.
 //!
@@ -16,6 +17,7 @@
 mod fault;
 mod index;
 mod line;
+mod packages;
 mod range;
 mod reading;
 

@@ -1,5 +1,5 @@
 //! The lines of a text, and their words.
-ghost use Rattle.std.specs.Prelude.{◌≡◌, ◌<◌, true, All, IfOk, IfErr, OnOk, length};
+ghost use Rattle.std.specs.Prelude.{◌≡◌, ◌<◌, ◌≤◌, true, All, IfOk, IfErr, OnOk, IfSome, length};
 ghost use Rattle.resolvo_ids.specs.Types.StoreError.TheVariants.{OutOfMemory};
 ghost use Rattle.example_index.specs.Reading.{IsOfLine, IsFurther};
 
@@ -39,12 +39,16 @@ pub fn split(alloc: Global, text: &[u8]) -> Result<Vec<Vec<Line<'_>>>, StoreErro
 }
 
 impl<'t> Line<'t> {
-    /// Its words.
-    pub(crate) fn words(self, alloc: Global) -> Result<Vec<&'t str>, IndexFault>
-        ensures { IfErr result (IsOfLine self.entry.number) }
+    /// Its words, none of which is read yet.
+    pub(crate) fn words(self) -> Result<Words<'t>, IndexFault>
+        ensures number { IfOk result (λ words. words.number ≡ self.entry.number) }
+        ensures fault { IfErr result (IsOfLine self.entry.number) }
     {
         match str::from_utf8(self.text) {
-            Ok(text) => Ok(text.split_ascii_whitespace().collect(alloc)?),
+            Ok(text) => Ok(Words {
+                number: self.number,
+                rest: text.trim_ascii_start(),
+            }),
             Err(_) => Err(IndexFault::Unreadable(self.number)),
         }
     }
@@ -55,7 +59,8 @@ impl<'t> Line<'t> {
 pub(crate) struct Words<'w> {
     /// The line's.
     pub(crate) number: u64,
-    pub(crate) rest: &'w [&'w str],
+    /// Without blanks at its start.
+    pub(crate) rest: &'w str,
 }
 
 impl<'w> Words<'w> {
@@ -73,17 +78,32 @@ impl<'w> Words<'w> {
         IndexFault::Unreadable(self.number)
     }
 
+    /// The next word, and what comes after it.
+    fn peek(&self) -> Option<(&'w str, &'w str)>
+        ensures { IfSome result (λ next. length next.1.now < length self.now.rest.now) }
+    {
+        if self.rest.is_empty() {
+            return None;
+        }
+        match self.rest.split_once(|c: char| c.is_ascii_whitespace()) {
+            Some((word, after)) if !word.is_empty() => Some((word, after.trim_ascii_start())),
+            Some(_) => None,
+            None => Some((self.rest, "")),
+        }
+    }
+
     /// Reads the next word.
     pub(crate) fn take(&mut self) -> Result<&'w str, IndexFault>
         ensures further { IsFurther self.old self.new }
+        ensures shorter { OnOk result (length self.new.rest.now < length self.old.rest.now) }
         ensures fault { IfErr result (IsOfLine self.old.number) }
     {
-        match self.rest {
-            [word, rest @ ..] => {
+        match self.peek() {
+            Some((word, rest)) => {
                 self.rest = rest;
-                Ok(*word)
+                Ok(word)
             }
-            [] => Err(self.unreadable()),
+            None => Err(self.unreadable()),
         }
     }
 
@@ -92,12 +112,35 @@ impl<'w> Words<'w> {
         ensures further { IsFurther self.old self.new }
         ensures taken { result ≡ true → length self.new.rest.now < length self.old.rest.now }
     {
-        match self.rest {
-            [next, rest @ ..] if *next == word => {
+        match self.peek() {
+            Some((next, rest)) if next == word => {
                 self.rest = rest;
                 true
             }
             _ => false,
         }
     }
+
+    /// Reads a text between quotes, as `"does not build"`. A blank follows it, or the end of the line.
+    pub(crate) fn take_quoted(&mut self) -> Result<&'w str, IndexFault>
+        ensures further { IsFurther self.old self.new }
+        ensures fault { IfErr result (IsOfLine self.old.number) }
+    {
+        let Some((text, after)) = quoted(self.rest) else {
+            return Err(self.unreadable());
+        };
+        let rest = after.trim_ascii_start();
+        if rest.len() == after.len() && !rest.is_empty() {
+            return Err(self.unreadable());
+        }
+        self.rest = rest;
+        Ok(text)
+    }
+}
+
+/// The text between quotes that a line's rest begins with, and what comes after the second one.
+fn quoted(rest: &str) -> Option<(&str, &str)>
+    ensures { IfSome result (λ parts. length parts.1.now ≤ length rest.now) }
+{
+    rest.strip_prefix('"')?.split_once('"')
 }

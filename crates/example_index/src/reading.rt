@@ -6,8 +6,11 @@ ghost use Rattle.example_index.specs.Reading.{IsOfLine, IsOfLines, IsFurther};
 use crate::fault::IndexFault;
 use crate::index::SmallIndex;
 use crate::line::{Line, Words};
+use crate::packages::{Entries, Package};
 use crate::range::VersionRange;
-use resolvo_ids::{ConditionId, DenseIndex, NameId, SolvableId, StoreError, VersionSetId};
+use resolvo_ids::{
+    ConditionId, DenseIndex, NameId, SolvableId, StoreError, StringId, VersionSetId,
+};
 use resolvo_pool::{
     Condition, ConditionalRequirement, KnownDependencies, LogicalOperator, Pool, Requirement,
 };
@@ -15,13 +18,13 @@ use std::alloc::Global;
 
 /// Reads an index of its lines, each of which is a version.
 pub fn read(alloc: Global, lines: &[Line<'_>]) -> Result<SmallIndex, IndexFault>
-    ensures ok { IfOk result (λ index. count_of index.versions.items ≡ length lines.now) }
+    ensures ok { IfOk result (λ index. count_of index.packages.items ≡ length lines.now) }
     ensures err { IfErr result (IsOfLines lines.now) }
 {
     let mut index = SmallIndex {
         alloc,
         pool: Pool::new(alloc),
-        versions: Vec::new(alloc),
+        packages: Vec::new(alloc),
         needs: Vec::new(alloc),
     };
     match index.add_lines(lines) {
@@ -36,7 +39,7 @@ pub fn read(alloc: Global, lines: &[Line<'_>]) -> Result<SmallIndex, IndexFault>
 impl SmallIndex {
     fn add_lines(&mut self, lines: &[Line<'_>]) -> Result<(), IndexFault>
         ensures ok { OnOk result
-            (count_of self.new.versions.items ≡ count_of self.old.versions.items + length lines.now) }
+            (count_of self.new.packages.items ≡ count_of self.old.packages.items + length lines.now) }
         ensures err { IfErr result (IsOfLines lines.now) }
     {
         for line in lines {
@@ -46,109 +49,158 @@ impl SmallIndex {
     }
 
     fn add_line(&mut self, line: Line<'_>) -> Result<(), IndexFault>
-        ensures ok { OnOk result (count_of self.new.versions.items ≡ count_of self.old.versions.items + 1) }
+        ensures ok { OnOk result (count_of self.new.packages.items ≡ count_of self.old.packages.items + 1) }
         ensures err { IfErr result (IsOfLine line.entry.number) }
     {
-        let words = line.words(self.alloc)?;
-        let mut words = Words {
-            number: line.number,
-            rest: &words,
-        };
+        let mut words = line.words()?;
         let read = words.version(self.alloc, &mut self.pool);
         self.pool.tell_sound();
-        let (name, solvable, needs) = read?;
-        reach(self.alloc, &mut self.versions, name.to_index())?;
-        add(&mut self.versions, name.to_index(), solvable)?;
-        self.needs.push(needs)?;
+        let (name, solvable, entries) = read?;
+        reach(self.alloc, &mut self.packages, name.to_index())?;
+        add(&mut self.packages, name.to_index(), solvable, &entries)?;
+        self.needs.push(entries.needs)?;
         Ok(())
     }
 }
 
-/// Adds empty lists up to a place.
-fn reach(alloc: Global, lists: &mut Vec<Vec<SolvableId>>, place: usize) -> Result<(), StoreError>
+/// Adds packages without versions up to a place.
+fn reach(alloc: Global, packages: &mut Vec<Package>, place: usize) -> Result<(), StoreError>
     requires { place < 2 ^ 32 }
-    ensures count { count_of lists.new.items ≡ count_of lists.old.items }
-    ensures reached { OnOk result (place < length lists.new.items) }
+    ensures count { count_of packages.new.items ≡ count_of packages.old.items }
+    ensures reached { OnOk result (place < length packages.new.items) }
 {
-    for _ in lists.len()..place + 1 {
-        lists.push(Vec::new(alloc))?;
+    for _ in packages.len()..place + 1 {
+        packages.push(Package::new(alloc))?;
     }
     Ok(())
 }
 
-/// Adds a solvable to the list at a place.
+/// Adds a version to the package at a place.
 fn add(
-    lists: &mut Vec<Vec<SolvableId>>,
+    packages: &mut Vec<Package>,
     place: usize,
-    solvable: SolvableId,
+    version: SolvableId,
+    said: &Entries,
 ) -> Result<(), StoreError>
-    requires { place < length lists.now.items }
-    ensures { OnOk result (count_of lists.new.items ≡ count_of lists.old.items + 1) }
+    requires { place < length packages.now.items }
+    ensures { OnOk result (count_of packages.new.items ≡ count_of packages.old.items + 1) }
 {
-    Ok(lists[place].push(solvable)?)
+    packages[place].add(version, said)
 }
 
 impl Words<'_> {
-    /// `NAME VERSION`, and what the version requires.
+    /// `NAME VERSION`, and the entries.
     fn version(
         &mut self,
         alloc: Global,
         pool: &mut Pool<VersionRange>,
-    ) -> Result<(NameId, SolvableId, KnownDependencies), IndexFault>
+    ) -> Result<(NameId, SolvableId, Entries), IndexFault>
         ensures { IfErr result (IsOfLine self.old.number) }
     {
         let name = self.name(alloc, pool)?;
         let version = self.number()?;
-        let needs = self.needs(alloc, pool)?;
+        let entries = self.entries(alloc, pool)?;
         let solvable = pool
             .intern_solvable(name, version)
             .map_err(StoreError::from)?;
-        Ok((name, solvable, needs))
+        Ok((name, solvable, entries))
     }
 
-    /// What a version requires: entries, up to the end of the line.
-    fn needs(
+    /// Entries, up to the end of the line.
+    fn entries(
         &mut self,
         alloc: Global,
         pool: &mut Pool<VersionRange>,
-    ) -> Result<KnownDependencies, IndexFault>
+    ) -> Result<Entries, IndexFault>
         ensures names { length pool.old.names ≤ length pool.new.names }
         ensures fault { IfErr result (IsOfLine self.old.number) }
     {
-        let mut needs = KnownDependencies::new(alloc);
+        let mut entries = Entries::new(alloc);
         'entries: while !self.is_empty() {
-            self.entry(alloc, pool, &mut needs)?;
+            self.entry(alloc, pool, &mut entries)?;
         }
-        Ok(needs)
+        Ok(entries)
     }
 
-    /// `needs REQUIREMENT`, perhaps with a condition, or `limits SET`.
+    /// `needs`, `limits` or `excluded` and what follows it, `favored` or `locked`.
     fn entry(
         &mut self,
         alloc: Global,
         pool: &mut Pool<VersionRange>,
-        needs: &mut KnownDependencies,
+        entries: &mut Entries,
     ) -> Result<(), IndexFault>
         ensures further { IsFurther self.old self.new }
         ensures shorter { OnOk result (length self.new.rest.now < length self.old.rest.now) }
         ensures names { length pool.old.names ≤ length pool.new.names }
         ensures fault { IfErr result (IsOfLine self.old.number) }
     {
-        if self.take_if("limits") {
-            let set = self.version_set(alloc, pool)?;
-            needs.constrains.push(set)?;
-            return Ok(());
+        match self.take()? {
+            "needs" => self.need(alloc, pool, &mut entries.needs),
+            "limits" => self.limit(alloc, pool, &mut entries.needs),
+            "favored" => {
+                entries.favored = true;
+                Ok(())
+            }
+            "locked" => {
+                entries.locked = true;
+                Ok(())
+            }
+            "excluded" => {
+                entries.excluded = Some(self.reason(alloc, pool)?);
+                Ok(())
+            }
+            _ => Err(self.unreadable()),
         }
-        if self.take_if("needs") {
-            let requirement = self.requirement(alloc, pool)?;
-            let condition = self.condition(alloc, pool)?;
+    }
+
+    /// What is needed, perhaps with a condition.
+    fn need(
+        &mut self,
+        alloc: Global,
+        pool: &mut Pool<VersionRange>,
+        needs: &mut KnownDependencies,
+    ) -> Result<(), IndexFault>
+        ensures further { IsFurther self.old self.new }
+        ensures names { length pool.old.names ≤ length pool.new.names }
+        ensures fault { IfErr result (IsOfLine self.old.number) }
+    {
+        let requirement = self.requirement(alloc, pool)?;
+        let condition = self.condition(alloc, pool)?;
+        Ok(
             needs.requirements.push(ConditionalRequirement {
                 condition,
                 requirement,
-            })?;
-            return Ok(());
-        }
-        Err(self.unreadable())
+            })?,
+        )
+    }
+
+    /// The version set outside which nothing may be picked.
+    fn limit(
+        &mut self,
+        alloc: Global,
+        pool: &mut Pool<VersionRange>,
+        needs: &mut KnownDependencies,
+    ) -> Result<(), IndexFault>
+        ensures further { IsFurther self.old self.new }
+        ensures names { length pool.old.names ≤ length pool.new.names }
+        ensures fault { IfErr result (IsOfLine self.old.number) }
+    {
+        let set = self.version_set(alloc, pool)?;
+        Ok(needs.constrains.push(set)?)
+    }
+
+    /// Why the version may not be picked, between quotes.
+    fn reason(
+        &mut self,
+        alloc: Global,
+        pool: &mut Pool<VersionRange>,
+    ) -> Result<StringId, IndexFault>
+        ensures further { IsFurther self.old self.new }
+        ensures names { length pool.old.names ≤ length pool.new.names }
+        ensures fault { IfErr result (IsOfLine self.old.number) }
+    {
+        let reason = String::from_str(alloc, self.take_quoted()?)?;
+        Ok(pool.intern_string(reason).map_err(StoreError::from)?)
     }
 
     /// `if` and alternatives, or nothing.

@@ -1,23 +1,49 @@
--- What an answer says.
-use Rattle.std.specs.Prelude.{List, ⊤}
+-- What an answer says. N are the names, S the solvables.
+use Rattle.std.specs.Prelude.{◌≡◌, All, List, map, take, ⊤}
 use Rattle.resolvo_pool.specs.Functions.{Provider}
 use Rattle.resolvo_pool.specs.Types.ConditionalRequirement.{ConditionalRequirement}
+use Rattle.solutions.specs.Needed.{IsNeeded}
 use Rattle.solutions.specs.Solutions.{IsSolution, IsUnsolvable}
+use Rattle.solutions.specs.Wishes.{IsBest, NoneSpare, rank}
+use Rattle.solutions.specs.declared.wish.Alternative.{Alternative}
 use Rattle.picking.specs.declared.finding.Answer.{Answer}
 use Rattle.picking.specs.declared.finding.Answer.TheVariants.{Picked, Unsolvable, Uncertified, StepsUsed, NotASolution}
+use Rattle.picking.specs.declared.finding.Choice.{Choice}
 
--- what is picked is a solution
-abbrev pub IsSound : {N S A : Type 0} → Provider N S → List ConditionalRequirement → Answer N S A → Type 0
-IsSound p requested (Picked solvables) = IsSolution p requested solvables.items
-IsSound p requested (Unsolvable reasons) = ⊤
-IsSound p requested (Uncertified reasons) = ⊤
-IsSound p requested StepsUsed = ⊤
-IsSound p requested NotASolution = ⊤
+-- what is picked has this
+abbrev pub IfPicked : {N S A : Type 0} → (Choice S A → Type 0) → Answer N S A → Type 0
+IfPicked Has (Picked choice) = Has choice
+IfPicked Has (Unsolvable reasons) = ⊤
+IfPicked Has (Uncertified reasons) = ⊤
+IfPicked Has StepsUsed = ⊤
+IfPicked Has NotASolution = ⊤
 
--- if it says that there is no solution, there is none
-abbrev pub IsComplete : {N S A : Type 0} → Provider N S → List ConditionalRequirement → Answer N S A → Type 0
-IsComplete p requested (Picked solvables) = ⊤
-IsComplete p requested (Unsolvable reasons) = IsUnsolvable p requested
-IsComplete p requested (Uncertified reasons) = ⊤
-IsComplete p requested StepsUsed = ⊤
-IsComplete p requested NotASolution = ⊤
+module _ {N S A : Type 0} (p : Provider N S) (requested : List ConditionalRequirement) where
+  -- what is picked is a solution
+  abbrev pub PicksSolution : Answer N S A → Type 0
+  PicksSolution = IfPicked (λ choice. IsSolution p requested choice.solvables.items)
+
+  -- if it says that there is no solution, there is none
+  abbrev pub FindsNone : Answer N S A → Type 0
+  FindsNone (Picked choice) = ⊤
+  FindsNone (Unsolvable reasons) = IsUnsolvable p requested
+  FindsNone (Uncertified reasons) = ⊤
+  FindsNone StepsUsed = ⊤
+  FindsNone NotASolution = ⊤
+
+  module _ (wishes : List (List (Alternative S))) where
+    -- no solution is better, by as many wishes as it says
+    abbrev pub PicksBest : Answer N S A → Type 0
+    PicksBest = IfPicked (λ choice. IsBest p requested (take choice.best_up_to wishes) choice.solvables.items)
+
+    -- the request, a wish or what is picked needs each solvable
+    abbrev pub PicksNeeded : Answer N S A → Type 0
+    PicksNeeded = IfPicked (λ choice. All (IsNeeded p requested wishes choice.solvables.items) choice.solvables.items)
+
+    -- no solvable can be left out
+    abbrev pub PicksNoneSpare : Answer N S A → Type 0
+    PicksNoneSpare = IfPicked (λ choice. NoneSpare p requested wishes choice.solvables.items)
+
+-- the ranks are what they are called
+abbrev pub PicksRanked : {N S A : Type 0} → Provider N S → List (List (Alternative S)) → Answer N S A → Type 0
+PicksRanked p wishes = IfPicked (λ choice. choice.ranks.items ≡ map (rank p choice.solvables.items) wishes)

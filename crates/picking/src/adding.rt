@@ -24,6 +24,8 @@ pub(crate) struct Need<N, S> {
 pub(crate) struct Encoded<T: SearchStore> {
     /// The reason of each clause.
     pub(crate) reasons: Mapping<ClauseId, Reason<T::NameId, T::SolvableId>, T::Alloc>,
+    /// The solvable of each clause that says that it isn't allowed.
+    pub(crate) forbidden: Mapping<ClauseId, T::SolvableId, T::Alloc>,
     pub(crate) requirements: Requirements<T::Alloc>,
 }
 
@@ -31,9 +33,11 @@ impl<T: SearchStore> Encoded<T> {
     /// Nothing is encoded.
     pub(crate) fn new(alloc: T::Alloc) -> Result<Self> {
         let reasons = Mapping::new(alloc)?;
+        let forbidden = Mapping::new(alloc)?;
         let requirements = Requirements::new(alloc)?;
         Ok(Encoded {
             reasons,
+            forbidden,
             requirements,
         })
     }
@@ -69,18 +73,32 @@ impl<T: SearchStore> Encoded<T> {
     ) -> Result<()> {
         for (excluded, reason) in &package.excluded {
             if *excluded == solvable {
-                self.exclude(
-                    store,
-                    variable,
-                    *reason,
-                    Reason::Excluded(solvable, *reason),
-                )?;
+                let why = Reason::Excluded(solvable, *reason);
+                let clause = self.exclude(store, variable, *reason, why)?;
+                self.forbidden.insert(clause, solvable)?;
             }
         }
         match package.locked {
-            Some(locked) if locked != solvable => self.lock(store, locked, variable),
+            Some(locked) if locked != solvable => {
+                let clause = self.lock(store, locked, variable)?;
+                self.forbidden.insert(clause, solvable)?;
+                Ok(())
+            }
             _ => Ok(()),
         }
+    }
+
+    /// Makes the variable false of a solvable that its package doesn't have. It is locked out by itself: there is no
+    /// other clause of one variable without a reason in the provider's words.
+    pub(crate) fn forbid_unlisted(
+        &mut self,
+        store: &mut T,
+        variable: VariableId,
+        solvable: T::SolvableId,
+    ) -> Result<()> {
+        let clause = store.lock(variable, variable)?.clause;
+        self.forbidden.insert(clause, solvable)?;
+        Ok(())
     }
 
     /// Says that the parent, if true, forbids solvables that the version set doesn't hold.
@@ -99,25 +117,30 @@ impl<T: SearchStore> Encoded<T> {
         Ok(())
     }
 
-    /// Makes a variable false, for the reason that the string says.
+    /// Makes a variable false, for the reason that the string says. Answers the clause.
     pub(crate) fn exclude(
         &mut self,
         store: &mut T,
         variable: VariableId,
         string: StringId,
         reason: Reason<T::NameId, T::SolvableId>,
-    ) -> Result<()> {
+    ) -> Result<ClauseId> {
         let clause = store.exclude(variable, string)?.clause;
         self.reasons.insert(clause, reason)?;
-        Ok(())
+        Ok(clause)
     }
 
-    /// Makes a variable false, since its package is locked to another solvable.
-    fn lock(&mut self, store: &mut T, locked: T::SolvableId, variable: VariableId) -> Result<()> {
+    /// Makes a variable false, since its package is locked to another solvable. Answers the clause.
+    fn lock(
+        &mut self,
+        store: &mut T,
+        locked: T::SolvableId,
+        variable: VariableId,
+    ) -> Result<ClauseId> {
         let first = store.variable(locked)?;
         let clause = store.lock(first, variable)?.clause;
         self.reasons.insert(clause, Reason::Locked(locked))?;
-        Ok(())
+        Ok(clause)
     }
 }
 

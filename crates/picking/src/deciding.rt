@@ -55,7 +55,7 @@ impl<A: Allocator + Copy> Requirements<A> {
     }
 
     /// What a variable requires.
-    fn of(&self, parent: VariableId) -> &[Required<A>] {
+    pub(crate) fn of(&self, parent: VariableId) -> &[Required<A>] {
         match self.lists.get(parent) {
             Some(list) => list.as_slice(),
             None => &[],

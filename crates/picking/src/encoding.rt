@@ -68,6 +68,19 @@ impl<T: SearchStore, P: PackageSource<T::NameId, T::SolvableId, T::Alloc> + Drop
         self.introduce_all(store)
     }
 
+    /// The variable of a solvable that is wished for, or against. It is false if its package doesn't have it.
+    pub(crate) fn wished(&mut self, store: &mut T, solvable: T::SolvableId) -> Result<VariableId> {
+        let variable = store.variable(solvable)?;
+        let Some(name) = self.packages.name(solvable) else {
+            return Err(StoreError::UnknownId);
+        };
+        let package = self.packages.package(name)?;
+        if !package.candidates.contains(&solvable) {
+            self.encoded.forbid_unlisted(store, variable, solvable)?;
+        }
+        Ok(variable)
+    }
+
     /// Propagates, and encodes what is newly true, until nothing is, or a clause is false.
     pub(crate) fn encode_true(&mut self, progress: &mut Progress<T>) -> Result<()> {
         for _ in 0..u64::MAX {
@@ -102,7 +115,7 @@ impl<T: SearchStore, P: PackageSource<T::NameId, T::SolvableId, T::Alloc> + Drop
     }
 
     /// Introduces the variables that are new in the store.
-    fn introduce_all(&mut self, store: &mut T) -> Result<()> {
+    pub(crate) fn introduce_all(&mut self, store: &mut T) -> Result<()> {
         for index in self.introduced..MOST_VARIABLES {
             let variable = VariableId::from_index(index);
             match store.origin(variable) {
@@ -164,8 +177,9 @@ impl<T: SearchStore, P: PackageSource<T::NameId, T::SolvableId, T::Alloc> + Drop
                 self.constrain_all(store, variable, solvable, &needs.constrains)
             }
             Dependencies::Unknown(reason) => {
-                self.encoded
-                    .exclude(store, variable, reason, Reason::Unknown(solvable, reason))
+                let why = Reason::Unknown(solvable, reason);
+                self.encoded.exclude(store, variable, reason, why)?;
+                Ok(())
             }
         }
     }

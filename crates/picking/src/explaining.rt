@@ -1,15 +1,59 @@
-//! Why there is no solution: the encoded clauses from which the last conflict follows.
+//! Why there is no solution, or none that is better by a wish: the encoded clauses from which that follows.
 use crate::adding::Encoded;
 use crate::notes::{Antecedent, Notes};
 use crate::progress::Progress;
 use crate::reason::Reason;
-use crate::search::{Refutation, Result};
+use crate::search::Result;
 use crate::search_store::SearchStore;
+use crate::wishing::{VariableValue, Wishes};
 use resolvo_clauses::{Literal, VariableOrigin};
-use resolvo_ids::{ClauseId, IndexedSet, Mapping, VariableId};
+use resolvo_ids::{ClauseId, IndexedSet, VariableId};
+use solutions::{Evidence, PackageLiteral};
 use std::alloc::Allocator;
 
-/// A trace from the last conflict back to encoded clauses.
+/// What a search shows, to be replayed.
+#[derive(Drop)]
+pub(crate) struct Shown<S, A: Allocator> {
+    /// The solvables whose dependencies that takes, and those that aren't allowed.
+    solvables: Vec<S, A>,
+    /// Learnt clauses: each follows by unit propagation from the encoded clauses and from those before it.
+    learnt: Vec<Vec<PackageLiteral<S>, A>, A>,
+}
+
+impl<S, A: Allocator + Copy> Shown<S, A> {
+    /// Nothing.
+    pub(crate) fn new(alloc: A) -> Self {
+        Shown {
+            solvables: Vec::new(alloc),
+            learnt: Vec::new(alloc),
+        }
+    }
+
+    /// As it is checked.
+    pub(crate) fn evidence(&self) -> Evidence<'_, S, A> {
+        Evidence {
+            solvables: &self.solvables,
+            learnt: &self.learnt,
+        }
+    }
+
+    /// How many clauses were learnt for it.
+    pub(crate) fn len(&self) -> usize {
+        self.learnt.len()
+    }
+}
+
+/// That there is no solution.
+#[derive(Drop)]
+pub(crate) struct Refutation<N, S, A: Allocator> {
+    pub(crate) shown: Shown<S, A>,
+    /// What it follows from in the end.
+    pub(crate) reasons: Vec<Reason<N, S>, A>,
+    /// How many steps are left.
+    pub(crate) steps: u64,
+}
+
+/// A trace from the last conflict, or from values, back to encoded clauses.
 #[derive(Drop)]
 struct Trace<A: Allocator> {
     /// What is still to be followed.
@@ -17,7 +61,7 @@ struct Trace<A: Allocator> {
     /// The clauses that were seen, and in which order.
     clauses: IndexedSet<ClauseId, A>,
     seen: Vec<ClauseId, A>,
-    /// The variables with a value at level 1 that were seen.
+    /// The variables that were seen because of their values.
     variables: IndexedSet<VariableId, A>,
 }
 
@@ -46,7 +90,15 @@ impl<A: Allocator + Copy> Trace<A> {
         }
     }
 
-    /// Adds a clause that gave a value at level 1, and the variables in it.
+    /// Adds values of variables.
+    fn add_values(&mut self, values: &[VariableValue]) -> Result<()> {
+        for one in values {
+            self.pending.push(Antecedent::Fact(one.variable))?;
+        }
+        Ok(())
+    }
+
+    /// Adds a clause that gave a value, and the variables in it.
     fn add_facts(&mut self, clause: ClauseId, literals: &[Literal]) -> Result<()> {
         self.pending.push(Antecedent::Clause(clause))?;
         for literal in literals {
@@ -58,33 +110,79 @@ impl<A: Allocator + Copy> Trace<A> {
 
 /// That there is no solution, and why. The reasons are what the clauses that were seen say, each once, in the order in
 /// which they were encoded; then the packages of which at most one version may be picked.
-pub(crate) fn refutation<T: SearchStore>(
+pub(crate) fn why_none<T: SearchStore>(
     progress: &Progress<T>,
     encoded: &Encoded<T>,
     notes: &Notes<T::SolvableId, T::Alloc>,
     steps: u64,
 ) -> Result<Refutation<T::NameId, T::SolvableId, T::Alloc>> {
     let mut trace = Trace::new(progress.alloc);
+    trace.pending.extend_from_slice(&notes.root_cause)?;
     follow_all(progress, notes, &mut trace)?;
-    let mut reasons = values_of(progress.alloc, &encoded.reasons, &trace.clauses)?;
+    let mut reasons = told(progress.alloc, encoded, &trace)?;
+    let shown = what_is_shown(encoded, notes, &trace, &reasons)?;
     add_packages(progress, &trace.seen, &mut reasons)?;
-    let solvables = dependents(progress.alloc, &reasons)?;
-    let learnt = notes.package_literals(&trace.clauses)?;
     Ok(Refutation {
-        learnt,
-        solvables,
+        shown,
         reasons,
         steps,
     })
 }
 
-/// The whole trace from the last conflict: follows what is pending until nothing is.
+/// That no alternative of a wish that is false can be so, beside what is so of the wishes before.
+pub(crate) fn why_none_better<T: SearchStore>(
+    progress: &Progress<T>,
+    encoded: &Encoded<T>,
+    notes: &Notes<T::SolvableId, T::Alloc>,
+    wishes: &Wishes<T::Alloc>,
+) -> Result<Shown<T::SolvableId, T::Alloc>> {
+    let mut trace = Trace::new(progress.alloc);
+    for place in 0..wishes.len() {
+        trace.add_values(wishes.false_ones(&progress.store, place))?;
+    }
+    follow_all(progress, notes, &mut trace)?;
+    let reasons = told(progress.alloc, encoded, &trace)?;
+    what_is_shown(encoded, notes, &trace, &reasons)
+}
+
+/// Why the alternatives of one wish that are false can't be so.
+pub(crate) fn why_not_better<T: SearchStore>(
+    progress: &Progress<T>,
+    encoded: &Encoded<T>,
+    notes: &Notes<T::SolvableId, T::Alloc>,
+    values: &[VariableValue],
+) -> Result<Vec<Reason<T::NameId, T::SolvableId>, T::Alloc>> {
+    let mut trace = Trace::new(progress.alloc);
+    trace.add_values(values)?;
+    follow_all(progress, notes, &mut trace)?;
+    let mut reasons = told(progress.alloc, encoded, &trace)?;
+    add_packages(progress, &trace.seen, &mut reasons)?;
+    Ok(reasons)
+}
+
+/// What a trace shows, whose reasons are these.
+fn what_is_shown<T: SearchStore>(
+    encoded: &Encoded<T>,
+    notes: &Notes<T::SolvableId, T::Alloc>,
+    trace: &Trace<T::Alloc>,
+    reasons: &[Reason<T::NameId, T::SolvableId>],
+) -> Result<Shown<T::SolvableId, T::Alloc>> {
+    let mut solvables = dependents(notes.alloc, reasons)?;
+    for clause in &trace.seen {
+        if let Some(solvable) = encoded.forbidden.get(*clause) {
+            solvables.push(*solvable)?;
+        }
+    }
+    let learnt = notes.package_literals(&trace.clauses)?;
+    Ok(Shown { solvables, learnt })
+}
+
+/// Follows what is pending until nothing is.
 fn follow_all<T: SearchStore>(
     progress: &Progress<T>,
     notes: &Notes<T::SolvableId, T::Alloc>,
     trace: &mut Trace<T::Alloc>,
 ) -> Result<()> {
-    trace.pending.extend_from_slice(&notes.root_cause)?;
     for _ in 0..u64::MAX {
         let Some(antecedent) = trace.pending.pop() else {
             break;
@@ -96,8 +194,8 @@ fn follow_all<T: SearchStore>(
     Ok(())
 }
 
-/// Adds what an antecedent follows from: a learnt clause from its own antecedents, and a value at level 1 from its
-/// clause and the other values in it.
+/// Adds what an antecedent follows from: a learnt clause from its own antecedents, and a value from its clause and the
+/// other values in it, unless it was decided.
 fn add_antecedents<T: SearchStore>(
     progress: &Progress<T>,
     notes: &Notes<T::SolvableId, T::Alloc>,
@@ -109,12 +207,13 @@ fn add_antecedents<T: SearchStore>(
             trace.pending.extend_from_slice(notes.antecedents(*clause))?;
             Ok(())
         }
-        Antecedent::Fact(variable) => match progress.trail.clause_of_fact(*variable) {
-            Some(clause) => {
+        Antecedent::Fact(variable) => match progress.trail.assigned(*variable) {
+            Some(assigned) if !assigned.is_decision => {
+                let clause = assigned.decision.derived_from;
                 let literals = progress.literals(clause)?;
                 trace.add_facts(clause, &literals)
             }
-            None => Ok(()),
+            _ => Ok(()),
         },
     }
 }
@@ -156,19 +255,40 @@ fn package_in<T: SearchStore>(store: &T, literals: &[Literal]) -> Option<T::Name
     None
 }
 
-/// The values of these clauses, each once, in the order of the map.
-fn values_of<T: Copy + PartialEq, A: Allocator + Copy>(
-    alloc: A,
-    map: &Mapping<ClauseId, T, A>,
-    clauses: &IndexedSet<ClauseId, A>,
-) -> Result<Vec<T, A>> {
-    let mut values = Vec::new(alloc);
-    for (clause, value) in map.iter() {
-        if clauses.contains(clause) && !values.contains(value) {
-            values.push(*value)?;
+/// The reasons of the encoded clauses that a trace saw, each once, in the order in which they were encoded.
+fn told<T: SearchStore>(
+    alloc: T::Alloc,
+    encoded: &Encoded<T>,
+    trace: &Trace<T::Alloc>,
+) -> Result<Vec<Reason<T::NameId, T::SolvableId>, T::Alloc>> {
+    let mut clauses = Vec::from_slice(alloc, &trace.seen)?;
+    clauses.sort_unstable();
+    let mut reasons = Vec::new(alloc);
+    for clause in &clauses {
+        if let Some(reason) = encoded.reasons.get(*clause) {
+            if !is_told(&reasons, reason) {
+                reasons.push(*reason)?;
+            }
         }
     }
-    Ok(values)
+    Ok(reasons)
+}
+
+/// Whether a reason is among these. Those of one solvable's dependencies come in turn.
+fn is_told<N: Copy + PartialEq, S: Copy + PartialEq>(
+    reasons: &[Reason<N, S>],
+    reason: &Reason<N, S>,
+) -> bool {
+    let dependent = reason.dependent();
+    for told in reasons.iter().rev() {
+        if *told == *reason {
+            return true;
+        }
+        if dependent.is_some() && told.dependent() != dependent {
+            return false;
+        }
+    }
+    false
 }
 
 /// The solvables whose dependencies are among the reasons. Reasons of one solvable come in turn.

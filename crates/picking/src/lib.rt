@@ -25,10 +25,12 @@ mod notes;
 mod pace;
 mod package_source;
 mod progress;
+mod reaching;
 mod reason;
 mod search;
 mod search_store;
 mod trail;
+mod wishing;
 
-pub use finding::{Answer, pick};
+pub use finding::{Answer, Choice, pick, pick_by_wishes, why_not};
 pub use reason::Reason;

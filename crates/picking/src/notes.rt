@@ -9,7 +9,7 @@ use std::alloc::Allocator;
 pub(crate) enum Antecedent {
     /// A clause.
     Clause(ClauseId),
-    /// The value of a variable at level 1.
+    /// The value of a variable: for a learnt clause that at level 1.
     Fact(VariableId),
 }
 
@@ -30,7 +30,7 @@ pub(crate) struct Notes<S, A: Allocator> {
     learnt_antecedents: Mapping<ClauseId, Vec<Antecedent, A>, A>,
     /// The antecedents of the last conflict, which follows from the root alone.
     pub(crate) root_cause: Vec<Antecedent, A>,
-    alloc: A,
+    pub(crate) alloc: A,
 }
 
 impl<S: Copy, A: Allocator + Copy> Notes<S, A> {

@@ -2,7 +2,8 @@
 use crate::search::Result;
 use crate::search_store::SearchStore;
 use crate::trail::Trail;
-use resolvo_clauses::{Decision, Literal};
+use crate::wishing::VariableValue;
+use resolvo_clauses::{Decision, Literal, VariableOrigin};
 use resolvo_ids::{ClauseId, VariableId};
 
 /// A store, and its trail as it was read last.
@@ -22,9 +23,20 @@ impl<T: SearchStore> Progress<T> {
 
     /// Decides that a variable is true, at a new level.
     pub(crate) fn decide(&mut self, variable: VariableId, clause: ClauseId) -> Result<()> {
+        self.begin_level(Decision::new(variable, true, clause))
+    }
+
+    /// Decides what a wish says, at a new level. No clause is behind it.
+    pub(crate) fn decide_wish(&mut self, alternative: VariableValue) -> Result<()> {
+        let VariableValue { variable, value } = alternative;
+        self.begin_level(Decision::new(variable, value, ClauseId::install_root()))
+    }
+
+    /// Assigns at a new level.
+    fn begin_level(&mut self, decision: Decision) -> Result<()> {
         self.read_trail()?;
-        self.trail.begin_level(variable)?;
-        self.assign(Decision::new(variable, true, clause))
+        self.trail.begin_level(decision.variable)?;
+        self.assign(decision)
     }
 
     /// Assigns at the current level. What is above is undone.
@@ -60,17 +72,17 @@ impl<T: SearchStore> Progress<T> {
         }
     }
 
-    /// Those of the candidates that are true.
-    pub(crate) fn picked(
+    /// The solvables of these variables.
+    pub(crate) fn solvables(
         &self,
-        candidates: &[(VariableId, T::SolvableId)],
+        variables: &[VariableId],
     ) -> Result<Vec<T::SolvableId, T::Alloc>> {
-        let mut picked = Vec::new(self.alloc);
-        for (variable, solvable) in candidates {
-            if self.store.value(*variable) == Some(true) {
-                picked.push(*solvable)?;
+        let mut solvables = Vec::new(self.alloc);
+        for variable in variables {
+            if let Some(VariableOrigin::Solvable(solvable)) = self.store.origin(*variable) {
+                solvables.push(solvable)?;
             }
         }
-        Ok(picked)
+        Ok(solvables)
     }
 }

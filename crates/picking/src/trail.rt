@@ -1,10 +1,10 @@
 //! The trail of a search, as it was read last, and its levels.
 use crate::search::Result;
 use resolvo_clauses::{Decision, Literal};
-use resolvo_ids::{ClauseId, Mapping, VariableId};
+use resolvo_ids::{Mapping, VariableId};
 use std::alloc::Allocator;
 
-/// A level begins with a decision: the root's at level 1, and then that a candidate is true.
+/// A level begins with a decision: the root's at level 1, and then that a candidate is true, or what a wish says.
 #[derive(Clone, Copy)]
 struct DecisionLevel {
     variable: VariableId,
@@ -57,7 +57,7 @@ impl<A: Allocator + Copy> Trail<A> {
         u32::try_from(self.levels.len()).unwrap_or(u32::MAX)
     }
 
-    /// Begins a level with the decision that a variable is true.
+    /// Begins a level with the decision of a variable.
     pub(crate) fn begin_level(&mut self, variable: VariableId) -> Result<()> {
         let below = self.assignments.len();
         self.levels.push(DecisionLevel { variable, below })?;
@@ -106,17 +106,12 @@ impl<A: Allocator + Copy> Trail<A> {
         }
     }
 
-    /// The clause of a variable that has its value at level 1.
-    pub(crate) fn clause_of_fact(&self, variable: VariableId) -> Option<ClauseId> {
-        match self.assigned(variable) {
-            Some(assigned) if assigned.level < 2 => Some(assigned.decision.derived_from),
-            _ => None,
-        }
-    }
-
     /// Whether a variable has its value at level 1.
     pub(crate) fn is_fact(&self, variable: VariableId) -> bool {
-        self.clause_of_fact(variable).is_some()
+        match self.assigned(variable) {
+            Some(assigned) => assigned.level < 2,
+            None => false,
+        }
     }
 
     /// The highest level of these literals.

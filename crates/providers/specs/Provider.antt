@@ -58,6 +58,10 @@ pub record Answers (N S : Type 0) : Type 0 where
   pub matches : VersionSetId → S → Bool
   -- the solvable of a package to try first
   pub favored : N → Option S
+  -- the solvable of a package that alone may be picked
+  pub locked : N → Option S
+  -- the solvables of a package that may not be picked, each with the reason
+  pub excluded : N → List (S × StringId)
   -- the solvables in the order of preference
   pub order : List S → List S
   -- what a solvable needs
@@ -72,6 +76,16 @@ candidates_of (Some found) = found.candidates.items
 abbrev pub favored_of : {S A : Type 0} → Option (Candidates S A) → Option S
 favored_of None = None
 favored_of (Some found) = found.favored
+
+-- the answered locked one
+abbrev pub locked_of : {S A : Type 0} → Option (Candidates S A) → Option S
+locked_of None = None
+locked_of (Some found) = found.locked
+
+-- the answered excluded ones, each with the reason
+abbrev pub excluded_of : {S A : Type 0} → Option (Candidates S A) → List (S × StringId)
+excluded_of None = []
+excluded_of (Some found) = found.excluded.items
 
 -- the members that pass the test, or, if inverse, those that don't, in order
 abbrev pub filtered : {S : Type 0} → (S → Bool) → Bool → List S → List S

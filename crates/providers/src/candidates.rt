@@ -32,12 +32,11 @@ pub struct Candidates<S = SolvableId, A: Allocator = Global> {
     pub candidates: Vec<S, A>,
     /// The one to try first, of each version set that holds it. One that isn't a candidate changes nothing.
     pub favored: Option<S>,
-    /// The one candidate that alone may be picked. It is kept for the encoder, and read by nothing here.
+    /// The one candidate that alone may be picked. The store doesn't read it: a search does.
     pub locked: Option<S>,
     /// For which solvables dependencies are told at little cost.
     pub hint_dependencies_available: HintDependenciesAvailable<S, A>,
-    /// Candidates that may not be picked, each with the reason. They are kept for the encoder, and read by nothing
-    /// here.
+    /// Candidates that may not be picked, each with the reason. The store doesn't read them: a search does.
     pub excluded: Vec<(S, StringId), A>,
 }
 

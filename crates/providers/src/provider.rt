@@ -3,7 +3,7 @@ ghost use Rattle.std.specs.Prelude.{◌≡◌, true, List, Option, All, ⊤, IfO
 ghost use Rattle.std.specs.List.Sorted.{IsPermutation};
 ghost use Rattle.typed_ids.specs.declared.error.StoreError.TheVariants.{OutOfMemory};
 ghost use Rattle.providers.specs.Dependencies.{needs_of};
-ghost use Rattle.providers.specs.Provider.{Answers, candidates_of, favored_of, filtered};
+ghost use Rattle.providers.specs.Provider.{Answers, candidates_of, excluded_of, favored_of, filtered, locked_of};
 ghost use Rattle.providers.specs.declared.candidates.Candidates.{Candidates};
 
 use crate::candidates::Candidates;
@@ -11,10 +11,10 @@ use crate::dependencies::Dependencies;
 use crate::interner::Interner;
 use typed_ids::{StoreError, VersionSetId};
 
-/// Answers what a resolver asks of packages. The candidates of a package, the favored one, which of them a version set
-/// holds, the order of preference and what a solvable needs are fixed functions of the provider's value. What else is
-/// answered with candidates may differ from one question to the next; a provider says what it may be, where it can. A
-/// refusal is want of memory.
+/// Answers what a resolver asks of packages. The candidates of a package, the favored, locked and excluded ones, which
+/// of them a version set holds, the order of preference and what a solvable needs are fixed functions of the provider's
+/// value. What else is answered with candidates may differ from one question to the next; a provider says what it may
+/// be, where it can. A refusal is want of memory.
 pub trait DependencyProvider: Interner {
     /// What a provider that asks to stop hands to whoever it stops.
     type Cancel: Drop;
@@ -47,6 +47,8 @@ pub trait DependencyProvider: Interner {
     ) -> Result<Option<Candidates<Self::SolvableId, Self::Alloc>>, StoreError>
         ensures candidates { IfOk result (λ found. candidates_of found ≡ (answers self.now).candidates name) }
         ensures favored { IfOk result (λ found. favored_of found ≡ (answers self.now).favored name) }
+        ensures locked { IfOk result (λ found. locked_of found ≡ (answers self.now).locked name) }
+        ensures excluded { IfOk result (λ found. excluded_of found ≡ (answers self.now).excluded name) }
         ensures allowed { IfOk result (λ found. may_answer self.now name found) }
         ensures err { IfErr result (λ e. e ≡ OutOfMemory) };
 

@@ -6,8 +6,8 @@
 //! | `id_maps` | total maps and sets that an id chooses |
 //! | `id_storage` | lists of values, finite maps, and maps of whose values only copies are handed out |
 //!
-//! A contract names a definition of theirs as `Rattle.resolvo_ids.specs.TOPIC`, and a type with its variants, or a trait
-//! with its ghost members, as `Rattle.resolvo_ids.specs.Types.NAME`.
+//! A contract names a definition of theirs as `Rattle.resolvo_ids.specs.TOPIC`, and a type with its variants, or a
+//! trait with its ghost members, as `Rattle.resolvo_ids.specs.Types.NAME`.
 #![tactic(auto)]
 
 pub use id_maps::{IdMap, IdSet, IndexedSet, Slot, SolverId, WithRootSet};

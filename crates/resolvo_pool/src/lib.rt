@@ -6,8 +6,8 @@
 //! | `package_pool` | the pool, where an ecosystem keeps what its ids stand for |
 //! | `solver_cache` | the cache, by which a resolver asks each question once |
 //!
-//! A contract names a definition of theirs as `Rattle.resolvo_pool.specs.TOPIC`, and a type with its variants, or a trait
-//! with its ghost members, as `Rattle.resolvo_pool.specs.Types.NAME`.
+//! A contract names a definition of theirs as `Rattle.resolvo_pool.specs.TOPIC`, and a type with its variants, or a
+//! trait with its ghost members, as `Rattle.resolvo_pool.specs.Types.NAME`.
 #![tactic(auto)]
 
 pub use package_pool::{NameText, Pool, Solvable, VersionSet};

@@ -43,7 +43,8 @@ clause_at requires (Some number) = slice_get requires number
 abbrev pub no_false : Lit → Bool
 no_false _ = false
 
--- what the counters keep, how many clauses they have counted, the first ones, and how many entries of a trail, the oldest
+-- what the counters keep, how many clauses they have counted, the first ones, and how many entries of a trail, the
+-- oldest
 pub record Counting : Type 0 where
   pub clauses : KeyedCounters
   pub known : ℕ
@@ -90,7 +91,8 @@ module _ {A : Type 0} (lists : Lists A) (disjunctions : List (Disjunction A)) (n
   counted_now requires = counted lists disjunctions (placed requires) (false_by now.entries)
 
 -- what a clause names is there: lists for its requirement, and its disjunction if it has one
-pub record IsThere {A : Type 0} (loaded : Lists A) (disjunctions : List (Disjunction A)) (c : RequiresClause) : Type 0 where
+pub record IsThere {A : Type 0} (loaded : Lists A) (disjunctions : List (Disjunction A)) (c : RequiresClause) :
+    Type 0 where
   pub lists : IsSome (lookup (same_requirement c.requirement) loaded)
   pub disjunction : IfSome c.condition (λ d. d < length disjunctions)
 

@@ -204,7 +204,8 @@ impl<D: DependencyProvider + Drop> ClauseStore<D> {
         ensures refused { IsRefused (reply_of result) →
             ⟦<D as Abstract>⟧.refused self.old (command_of command.now) self.new }
         ensures provider { self.new.provider ≡ self.old.provider }
-        ensures queue_state { ⟦<D as Abstract>⟧.queue_step self.old (command_of command.now) (reply_of result) self.new }
+        ensures queue_state { ⟦<D as Abstract>⟧.queue_step self.old (command_of command.now) (reply_of result)
+            self.new }
         ensures was_sound { IsSound (⟦<D as Abstract>⟧.store self.old) }
         ensures sound { IsSound (⟦<D as Abstract>⟧.store self.new) }
         ensures at_most_one { (name : D.NameId) → ForbidsTwo (⟦<D as Abstract>⟧.store self.new) name }
@@ -218,7 +219,8 @@ impl<D: DependencyProvider + Drop> ClauseStore<D> {
     fn dispatch(&mut self, command: &Command<D::NameId, D::SolvableId, D::Alloc>) -> Reply<D::Alloc>
         ensures step { ⟦<D as Abstract>⟧.step self.old (command_of command.now) (reply_of result) self.new }
         ensures provider { self.new.provider ≡ self.old.provider }
-        ensures queue_state { ⟦<D as Abstract>⟧.queue_step self.old (command_of command.now) (reply_of result) self.new }
+        ensures queue_state { ⟦<D as Abstract>⟧.queue_step self.old (command_of command.now) (reply_of result)
+            self.new }
     {
         match command {
             Command::Variable(solvable) => variable_reply(self.variable(*solvable)),

@@ -1,5 +1,5 @@
 -- What a script's packages know and answer.
-use Rattle.std.specs.Prelude.{ℕ, length, List, [], ◌++◌, slice_get, unwrap_or, option_map, codes, decimal}
+use Rattle.std.specs.Prelude.{ℕ, length, List, [], ◌++◌, None, slice_get, unwrap_or, option_map, codes, decimal}
 use Rattle.std.specs.String.{string_bytes}
 use Rattle.typed_ids.specs.declared.version_set_id.VersionSetId.{VersionSetId}
 use Rattle.package_pool.specs.PoolIds.{universe_in, texts_in}
@@ -33,6 +33,8 @@ answers_of p = record {
   candidates = λ n. listed_numbers (span_of p.spans (length p.pool.solvables) n);
   matches = λ v s. is_within (range_at p.pool.version_sets v) (version_at p.pool.solvables s);
   favored = λ n. favored_number (span_of p.spans (length p.pool.solvables) n);
+  locked = λ n. None;
+  excluded = λ n. [];
   order = λ list. best_first p.pool.solvables list;
   needs = λ s. Known [] [];
 }

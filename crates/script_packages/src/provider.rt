@@ -2,7 +2,7 @@
 ghost use Rattle.std.specs.Prelude.{◌≡◌, ◌≤◌, ◌+◌, ◌-◌, [], IfSome, length, slice_get, take};
 ghost use Rattle.std.specs.Prelude.{option_and_then, IfOk, OnOk, OnErr, IfErr};
 ghost use Rattle.typed_ids.specs.declared.error.StoreError.TheVariants.{OutOfMemory};
-ghost use Rattle.providers.specs.Provider.{candidates_of, favored_of, filtered};
+ghost use Rattle.providers.specs.Provider.{candidates_of, excluded_of, favored_of, filtered, locked_of};
 ghost use Rattle.providers.specs.declared.candidates.HintDependenciesAvailable.TheVariants as Hint;
 ghost use Rattle.providers.specs.Texts.{IsAppended, IsSameText};
 ghost use Rattle.script_packages.specs.Packages.{numbers, is_within};
@@ -159,8 +159,8 @@ impl DependencyProvider for Packages {
     ) -> Result<Option<Candidates<SolvableId, Global>>, StoreError>
         ensures candidates { IfOk result (λ found. candidates_of found ≡ (answers_of self.now).candidates name) }
         ensures favored { IfOk result (λ found. favored_of found ≡ (answers_of self.now).favored name) }
-        ensures locks_nothing { IfOk result (λ found. IfSome found (λ c. c.locked ≡ None)) }
-        ensures excludes_nothing { IfOk result (λ found. IfSome found (λ c. c.excluded.items ≡ [])) }
+        ensures locked { IfOk result (λ found. locked_of found ≡ None) }
+        ensures excluded { IfOk result (λ found. excluded_of found ≡ []) }
         ensures hints_nothing { IfOk result (λ found. IfSome found (λ c. c.hint_dependencies_available ≡ Hint.None)) }
         ensures err { IfErr result (λ e. e ≡ OutOfMemory) }
     {

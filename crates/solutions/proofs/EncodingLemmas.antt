@@ -15,7 +15,7 @@ use Rattle.resolvo_pool.specs.Provider.{knows_requirement, matching, non_matchin
 use Rattle.resolvo_pool.specs.Types.ConditionalRequirement.{ConditionalRequirement}
 use Rattle.resolvo_pool.specs.Types.Requirement.{Requirement}
 use Rattle.solutions.specs.Solutions.{AreNeedsSatisfied, IsSatisfied, has_picked, is_among, is_respected, is_satisfied}
-use Rattle.solutions.specs.Truth.{AreAllNeedsSatisfied, NonePickedUnless, AreStillSatisfied, HasTrueOr, truth}
+use Rattle.solutions.specs.Truth.{AreAllFit, IsFit, NonePickedUnless, AreStillSatisfied, HasTrueOr, truth}
 use Rattle.solutions.specs.declared.literal.Fact.TheVariants.{Picked, Held}
 use Rattle.solutions.specs.declared.literal.Literal.{Literal}
 
@@ -159,16 +159,14 @@ module _ {N S : Type 0} (p : Provider N S) where
             (left_out (or_nothing u ∙ e))))
       ]) refl
 
-  -- the needs of a selected solvable are satisfied
-  pub needs_of_picked : (equal : (s t : S) → p.same_solvable s t ≡ true → s ≡ t) (is_picked : S → Bool) (picked : List S) (s : S)
-      → All (λ t. AreNeedsSatisfied p is_picked (p.answers.needs t)) picked → is_among p picked s ≡ true
-      → AreNeedsSatisfied p is_picked (p.answers.needs s)
-  needs_of_picked equal is_picked [] s all among = absurd (true≢false (sym among))
-  needs_of_picked equal is_picked (t ∷ picked) s all among =
-      let P = λ (u : S). AreNeedsSatisfied p is_picked (p.answers.needs u) in
+  -- what holds of all selected solvables holds of each one
+  pub of_picked : (equal : (s t : S) → p.same_solvable s t ≡ true → s ≡ t) (P : S → Type 0) (picked : List S) (s : S)
+      → All P picked → is_among p picked s ≡ true → P s
+  of_picked equal P [] s all among = absurd (true≢false (sym among))
+  of_picked equal P (t ∷ picked) s all among =
       (elim (p.same_solvable s t) as (λ b. p.same_solvable s t ≡ b → (b || is_among p picked s) ≡ true → P s) [
         | true ↦ λ e h. subst P (sym (equal s t e)) (All-head P t picked all)
-        | false ↦ λ e h. needs_of_picked equal is_picked picked s (All-tail P t picked all) h
+        | false ↦ λ e h. of_picked equal P picked s (All-tail P t picked all) h
       ]) refl among
 
   -- the clause of a requirement
@@ -186,12 +184,12 @@ module _ {N S : Type 0} (p : Provider N S) where
       second ∙ ap (λ b. b || m) (first picked)
       ∙ clause_is_true (has_true (truth p picked) unless) (list_all (has_picked p (is_among p picked)) held) m given
 
-  -- the needs of a solvable, unless it isn't picked
-  pub needs_satisfied_where : (reflexive : (n : N) → p.same_name n n ≡ true) (equal : (s t : S) → p.same_solvable s t ≡ true → s ≡ t)
+  -- a solvable is fit, unless it isn't picked
+  pub fit_where : (reflexive : (n : N) → p.same_name n n ≡ true) (equal : (s t : S) → p.same_solvable s t ≡ true → s ≡ t)
       (unless : Literal N S) (s : S) → unless.fact ≡ Picked s (p.universe.solvable_name s) → unless.value ≡ false → (picked : List S)
-      → AreAllNeedsSatisfied p picked → has_true (truth p picked) (unless ∷ []) ≡ false → AreNeedsSatisfied p (is_among p picked) (p.answers.needs s)
-  needs_satisfied_where reflexive equal unless s fact value picked content fails =
-      needs_of_picked equal (is_among p picked) picked s content
+      → AreAllFit p picked → has_true (truth p picked) (unless ∷ []) ≡ false → IsFit p (is_among p picked) s
+  fit_where reflexive equal unless s fact value picked fit fails =
+      of_picked equal (IsFit p (is_among p picked)) picked s fit
       (not_false (is_among p picked s) (sym (unpicked_literal reflexive unless s fact value picked)
       ∙ sym (or_nothing (is_true (truth p picked) unless)) ∙ fails))
 

@@ -1,8 +1,9 @@
 -- Solutions in a small ecosystem, and what is none. The solvable 0 is an app, 1 and 2 are versions of a library, 3 is a
 -- plugin. The app needs the library, and the plugin where version 2 of the library is picked; it allows no other version.
-use Rattle.std.proofs.Common.{◌≡◌, ℕ, true, false, List, [], ◌∷◌, refl, None, Some, if◌then◌else◌, ◌==◌, nat_eq, nat_lt, true≢false, sym}
+use Rattle.std.proofs.Common.{◌≡◌, ℕ, true, false, List, [], ◌∷◌, refl, Option, None, Some, if◌then◌else◌, ◌==◌, nat_eq, nat_lt, true≢false, ap, sym, arith}
 use Rattle.std.specs.List.{IsDistinct}
 use Rattle.std.proofs.lemmas.List.Elements.{All-nil, All-cons, All-head, All-tail}
+use Rattle.resolvo_ids.specs.Types.StringId.{StringId}
 use Rattle.resolvo_ids.specs.Types.VersionSetId.{VersionSetId}
 use Rattle.resolvo_pool.specs.Conditions.{Leaf, leaf}
 use Rattle.resolvo_pool.specs.Dependencies.{Needs, Known}
@@ -10,13 +11,15 @@ use Rattle.resolvo_pool.specs.Functions.{Provider}
 use Rattle.resolvo_pool.specs.Types.Condition.TheVariants as Cond
 use Rattle.resolvo_pool.specs.Types.ConditionalRequirement.{ConditionalRequirement}
 use Rattle.resolvo_pool.specs.Types.Requirement.TheVariants.{Single}
-use Rattle.solutions.specs.Solutions.{AreNeedsSatisfied, IsSatisfied, IsSolution, is_among}
+use Rattle.solutions.specs.Solutions.{AreNeedsSatisfied, IsSatisfied, IsSolution, is_allowed, is_among}
+use Rattle.solutions.specs.Wishes.{IsSpare, NoneSpare, rank}
+use Rattle.solutions.specs.declared.wish.Alternative.{Alternative}
 
 abbrev set : ℕ → VersionSetId
 set n = record { 0 = n }
 
 -- a requirement of a version set, always, and under a condition
-abbrev always : ℕ → ConditionalRequirement
+abbrev pub always : ℕ → ConditionalRequirement
 always n = record { condition = None; requirement = Single (set n) }
 
 abbrev under : ℕ → ℕ → ConditionalRequirement
@@ -29,8 +32,9 @@ package_of_set v = if v == 0 then 0 else (if v == 3 then 2 else 1)
 abbrev needs : ℕ → Needs
 needs s = if s == 0 then Known (always 1 ∷ under 0 3 ∷ []) (set 2 ∷ []) else Known [] []
 
-abbrev ecosystem : Provider ℕ ℕ
-ecosystem = record {
+-- with this version of the library locked, if any, and these excluded
+abbrev ecosystem_with : Option ℕ → List (ℕ × StringId) → Provider ℕ ℕ
+ecosystem_with locked excluded = record {
   same_name = nat_eq;
   same_solvable = nat_eq;
   is_large_name = λ _. false;
@@ -53,12 +57,17 @@ ecosystem = record {
     candidates = λ n. if n == 0 then 0 ∷ [] else (if n == 1 then 1 ∷ 2 ∷ [] else 3 ∷ []);
     matches = λ v s. if v.0 == 2 then s == 2 else true;
     favored = λ _. None;
+    locked = λ n. if n == 1 then locked else None;
+    excluded = λ n. if n == 1 then excluded else [];
     order = λ solvables. solvables;
     needs = needs;
   };
 }
 
-abbrev requested : List ConditionalRequirement
+abbrev pub ecosystem : Provider ℕ ℕ
+ecosystem = ecosystem_with None []
+
+abbrev pub requested : List ConditionalRequirement
 requested = always 0 ∷ []
 
 -- the app, version 2 and the plugin are a solution
@@ -69,8 +78,10 @@ all_three =
     let is_satisfied = IsSatisfied ecosystem has in
     let are_needs_satisfied = λ (s : ℕ). AreNeedsSatisfied ecosystem has (needs s) in
     let is_known = λ (s : ℕ). nat_lt s 4 ≡ true in
+    let allows = λ (s : ℕ). is_allowed ecosystem s ≡ true in
     record {
       known = All-cons is_known 0 (2 ∷ 3 ∷ []) refl (All-cons is_known 2 (3 ∷ []) refl (All-cons is_known 3 [] refl (All-nil is_known)));
+      allowed = All-cons allows 0 (2 ∷ 3 ∷ []) refl (All-cons allows 2 (3 ∷ []) refl (All-cons allows 3 [] refl (All-nil allows)));
       one_a_package = ((refl, (refl, tt)), ((refl, tt), (tt, tt)));
       satisfied = All-cons is_satisfied (always 0) [] refl (All-nil is_satisfied);
       needs_satisfied = All-cons are_needs_satisfied 0 (2 ∷ 3 ∷ [])
@@ -93,6 +104,18 @@ old_version s =
     let has = is_among ecosystem (0 ∷ 1 ∷ []) in
     true≢false (sym (All-head (λ s. AreNeedsSatisfied ecosystem has (needs s)) 0 (1 ∷ []) s.needs_satisfied).1)
 
+-- version 2 isn't allowed where the library excludes it
+pub excluded_version : IsSolution (ecosystem_with None ((2, record { 0 = 0 }) ∷ [])) requested (0 ∷ 2 ∷ 3 ∷ []) → ⊥
+excluded_version s =
+    let allows = λ (s : ℕ). is_allowed (ecosystem_with None ((2, record { 0 = 0 }) ∷ [])) s ≡ true in
+    true≢false (sym (All-head allows 2 (3 ∷ []) (All-tail allows 0 (2 ∷ 3 ∷ []) s.allowed)))
+
+-- nor where version 1 is locked
+pub locked_out_version : IsSolution (ecosystem_with (Some 1) []) requested (0 ∷ 2 ∷ 3 ∷ []) → ⊥
+locked_out_version s =
+    let allows = λ (s : ℕ). is_allowed (ecosystem_with (Some 1) []) s ≡ true in
+    true≢false (sym (All-head allows 2 (3 ∷ []) (All-tail allows 0 (2 ∷ 3 ∷ []) s.allowed)))
+
 -- no two versions
 pub both_versions : IsSolution ecosystem requested (1 ∷ 2 ∷ []) → ⊥
 unfolding IsDistinct
@@ -101,3 +124,20 @@ both_versions s = true≢false s.one_a_package.0.0
 -- the app is requested
 pub nothing : IsSolution ecosystem requested [] → ⊥
 nothing s = true≢false (sym (All-head (IsSatisfied ecosystem (is_among ecosystem [])) (always 0) [] s.satisfied))
+
+abbrev and_version_1 : List ℕ
+and_version_1 = 0 ∷ 2 ∷ 3 ∷ 1 ∷ []
+
+-- another version beside a solution can be left out
+pub version_1_spare : NoneSpare ecosystem requested [] and_version_1 → ⊥
+version_1_spare none =
+    none 3 1 (omega arith) (all_three, All-nil (λ (wish : List (Alternative ℕ)). rank ecosystem and_version_1 wish ≡ rank ecosystem (0 ∷ 2 ∷ 3 ∷ []) wish))
+
+-- but not where it is wished
+abbrev wish : List (Alternative ℕ)
+wish = record { solvable = 1; is_picked = true } ∷ []
+
+pub version_1_wished : IsSpare ecosystem requested (wish ∷ []) and_version_1 1 → ⊥
+version_1_wished spare =
+    let same : 0 ≡ 1 = All-head (λ (wish : List (Alternative ℕ)). rank ecosystem and_version_1 wish ≡ rank ecosystem (0 ∷ 2 ∷ 3 ∷ []) wish) wish [] spare.1 in
+    absurd (true≢false (ap (λ (n : ℕ). n == 0) same))

@@ -1,6 +1,7 @@
 -- When solvables are a solution: in the words of the packages alone. N are the names, S the solvables.
-use Rattle.std.specs.Prelude.{◌≡◌, ℕ, Bool, true, not, ◌&&◌, All, List, map, Option, None, Some}
+use Rattle.std.specs.Prelude.{◌≡◌, ℕ, Bool, true, false, not, ◌&&◌, All, List, map, Option, None, Some}
 use Rattle.std.specs.List.{list_all, list_any, IsDistinct}
+use Rattle.resolvo_ids.specs.Types.StringId.{StringId}
 use Rattle.resolvo_ids.specs.Types.VersionSetId.{VersionSetId}
 use Rattle.resolvo_pool.specs.Conditions.{Formula, Denotes, formula_holds}
 use Rattle.resolvo_pool.specs.Dependencies.{Needs, Known, Unknown}
@@ -43,14 +44,32 @@ module _ {N S : Type 0} (p : Provider N S) (is_picked : S → Bool) where
       All IsSatisfied requirements × (list_all is_respected constrains ≡ true)
   AreNeedsSatisfied (Unknown reason) = ⊥
 
--- the solvable is one of these
-abbrev pub is_among : {N S : Type 0} → Provider N S → List S → S → Bool
-is_among p picked solvable = list_any (p.same_solvable solvable) picked
+module _ {N S : Type 0} (p : Provider N S) where
+  -- the solvable is one of these
+  abbrev pub is_among : List S → S → Bool
+  is_among solvables solvable = list_any (p.same_solvable solvable) solvables
+
+  -- the solvable is one of these, which have reasons
+  abbrev pub is_excluded_by : List (S × StringId) → S → Bool
+  is_excluded_by excluded solvable = list_any (λ e. p.same_solvable solvable e.0) excluded
+
+  -- another one is locked
+  abbrev pub is_locked_out_by : Option S → S → Bool
+  is_locked_out_by None solvable = false
+  is_locked_out_by (Some locked) solvable = not (p.same_solvable solvable locked)
+
+  -- a candidate of its package, which the package doesn't exclude, and which isn't locked to another one
+  abbrev pub is_allowed : S → Bool
+  is_allowed solvable =
+      let name = p.universe.solvable_name solvable in
+      is_among (p.answers.candidates name) solvable && (not (is_excluded_by (p.answers.excluded name) solvable)
+      && not (is_locked_out_by (p.answers.locked name) solvable))
 
 -- these solvables are a solution of the request, which is a list of requirements
 pub record IsSolution {N S : Type 0} (p : Provider N S) (requested : List ConditionalRequirement)
     (picked : List S) : Type 0 where
   pub known : All (λ s. p.universe.knows_solvable s ≡ true) picked
+  pub allowed : All (λ s. is_allowed p s ≡ true) picked
   -- one version of a package, once
   pub one_a_package : IsDistinct p.same_name (map p.universe.solvable_name picked)
   pub satisfied : All (IsSatisfied p (is_among p picked)) requested

@@ -9,7 +9,8 @@ use Rattle.resolvo_pool.specs.Functions.{Provider}
 use Rattle.resolvo_pool.specs.Types.ConditionalRequirement.{ConditionalRequirement}
 use Rattle.resolvo_pool.specs.Types.Requirement.{Requirement}
 use Rattle.solutions.specs.Clauses.{AreSatisfied, has_true}
-use Rattle.solutions.specs.Solutions.{AreNeedsSatisfied, IsSatisfied, has_picked, is_among, is_respected, is_satisfied}
+use Rattle.solutions.specs.Solutions.{AreNeedsSatisfied, IsSatisfied, has_picked, is_allowed, is_among}
+use Rattle.solutions.specs.Solutions.{is_respected, is_satisfied}
 use Rattle.solutions.specs.declared.literal.Fact.{Fact}
 use Rattle.solutions.specs.declared.literal.Fact.TheVariants.{Picked, Held}
 use Rattle.solutions.specs.declared.literal.Literal.{Literal}
@@ -52,6 +53,10 @@ module _ {N S : Type 0} (p : Provider N S) (unless : List (Literal N S)) (picked
   IsSatisfiedUnless lists requirement = Unless (list_any (list_all (has_picked p (is_among p picked))) lists ≡ true →
       is_satisfied p (is_among p picked) requirement ≡ true)
 
--- the needs of each selected solvable are satisfied
-abbrev pub AreAllNeedsSatisfied : {N S : Type 0} → Provider N S → List S → Type 0
-AreAllNeedsSatisfied p picked = All (λ s. AreNeedsSatisfied p (is_among p picked) (p.answers.needs s)) picked
+-- the solvable is allowed, and its needs are satisfied
+abbrev pub IsFit : {N S : Type 0} → Provider N S → (S → Bool) → S → Type 0
+IsFit p is_picked s = (is_allowed p s ≡ true) × AreNeedsSatisfied p is_picked (p.answers.needs s)
+
+-- each selected solvable is allowed, and its needs are satisfied
+abbrev pub AreAllFit : {N S : Type 0} → Provider N S → List S → Type 0
+AreAllFit p picked = All (IsFit p (is_among p picked)) picked

@@ -8,11 +8,11 @@ ghost use Rattle.solutions.specs.Clauses.{has_true};
 ghost use Rattle.solutions.specs.Solutions.{AreNeedsSatisfied, IsSatisfied, IsSolution};
 ghost use Rattle.solutions.specs.Solutions.{has_picked, is_among, is_satisfied};
 ghost use Rattle.resolvo_pool.specs.Dependencies.{Known};
-ghost use Rattle.solutions.specs.Truth.{AreAllNeedsSatisfied, AreNeedsSatisfiedUnless};
-ghost use Rattle.solutions.specs.Truth.{AreSatisfiedUnless, AreRespectedUnless};
+ghost use Rattle.solutions.specs.Truth.{AreAllFit, AreNeedsSatisfiedUnless, AreRespectedUnless, AreSatisfiedUnless};
 ghost use Rattle.solutions.specs.Truth.{NonePickedUnless, AreStillSatisfied, HasTrueOr, IsSatisfiedUnless, truth};
 ghost use Rattle.solutions.specs.declared.literal.Fact.TheVariants.{Held, Picked};
 
+use crate::allowed::is_allowed;
 use crate::atoms::Atoms;
 use crate::clauses::Theory;
 use crate::literal::{Atom, Literal};
@@ -23,7 +23,7 @@ use resolvo_pool::{
     Requirement, convert_conditions_to_dnf,
 };
 
-/// Clauses that each solution of a request satisfies: those of the request, and of the dependencies of some solvables.
+/// Clauses that each solution of a request satisfies: those of the request, and what some solvables say.
 pub(crate) fn encoded<D: DependencyProvider>(
     alloc: D::Alloc,
     provider: &D,
@@ -38,7 +38,7 @@ pub(crate) fn encoded<D: DependencyProvider>(
 }
 
 /// The same clauses, by an encoder.
-fn encoded_by<D: DependencyProvider>(
+pub(crate) fn encoded_by<D: DependencyProvider>(
     encoder: &Encoder<D>,
     requested: &[ConditionalRequirement],
     solvables: &[D::SolvableId],
@@ -56,20 +56,20 @@ fn encoded_by<D: DependencyProvider>(
 
 /// Writes clauses.
 #[derive(Drop)]
-struct Encoder<'p, D: DependencyProvider> {
-    alloc: D::Alloc,
-    provider: &'p D,
+pub(crate) struct Encoder<'p, D: DependencyProvider> {
+    pub(crate) alloc: D::Alloc,
+    pub(crate) provider: &'p D,
 }
 
 impl<'p, D: DependencyProvider> Encoder<'p, D> {
-    /// Says what each of the solvables needs, if it is picked.
+    /// Says that a solvable that isn't allowed isn't picked, and what each other one of these needs, if it is picked.
     fn encode_all(
         &self,
         theory: &mut Theory<D::NameId, D::SolvableId, D::Alloc>,
         solvables: &[D::SolvableId],
     ) -> Result<(), StoreError>
         ensures { OnOk result (AreStillSatisfied (⟦<D as ProviderFunctions>⟧.functions self.now.provider.now)
-            (AreAllNeedsSatisfied (⟦<D as ProviderFunctions>⟧.functions self.now.provider.now))
+            (AreAllFit (⟦<D as ProviderFunctions>⟧.functions self.now.provider.now))
             theory.old.clauses.items theory.new.clauses.items) }
     {
         for solvable in solvables {
@@ -78,18 +78,37 @@ impl<'p, D: DependencyProvider> Encoder<'p, D> {
         Ok(())
     }
 
-    /// Says what a solvable needs if it is picked.
+    /// Says that a solvable isn't picked, if it isn't allowed; otherwise what it needs, if it is picked.
     fn encode_solvable(
         &self,
         theory: &mut Theory<D::NameId, D::SolvableId, D::Alloc>,
         solvable: D::SolvableId,
     ) -> Result<(), StoreError>
         ensures { OnOk result (AreStillSatisfied (⟦<D as ProviderFunctions>⟧.functions self.now.provider.now)
-            (AreAllNeedsSatisfied (⟦<D as ProviderFunctions>⟧.functions self.now.provider.now))
+            (AreAllFit (⟦<D as ProviderFunctions>⟧.functions self.now.provider.now))
             theory.old.clauses.items theory.new.clauses.items) }
     {
         let atom = self.picked(&mut theory.atoms, solvable)?;
-        let unless = Literal::new(atom, false);
+        let unpicked = Literal::new(atom, false);
+        if !is_allowed(self.alloc, self.provider, solvable)? {
+            return theory.add_unit(self.alloc, unpicked);
+        }
+        self.encode_dependencies(theory, unpicked, solvable)
+    }
+
+    /// Says that, unless the literal is true, what a solvable needs is known and satisfied.
+    fn encode_dependencies(
+        &self,
+        theory: &mut Theory<D::NameId, D::SolvableId, D::Alloc>,
+        unless: Literal<D::NameId, D::SolvableId>,
+        solvable: D::SolvableId,
+    ) -> Result<(), StoreError>
+        requires { (D.universe self.now.provider.now).knows_solvable solvable ≡ true }
+        ensures { OnOk result (AreStillSatisfied (⟦<D as ProviderFunctions>⟧.functions self.now.provider.now)
+            (λ picked. AreNeedsSatisfiedUnless (⟦<D as ProviderFunctions>⟧.functions self.now.provider.now)
+            (unless ∷ []) picked ((D.answers self.now.provider.now).needs solvable))
+            theory.old.clauses.items theory.new.clauses.items) }
+    {
         match self.provider.get_dependencies(self.alloc, solvable)? {
             Dependencies::Known(needs) => {
                 self.encode_needs(theory, unless, &needs.requirements, &needs.constrains)
@@ -118,7 +137,7 @@ impl<'p, D: DependencyProvider> Encoder<'p, D> {
     }
 
     /// That a solvable is picked.
-    fn picked(
+    pub(crate) fn picked(
         &self,
         atoms: &mut Atoms<D::NameId, D::SolvableId, D::Alloc>,
         solvable: D::SolvableId,

@@ -1,31 +1,63 @@
-//! Whether versions are a solution, and that there is none: both are decided over the packages alone, and proved.
+//! Whether versions are a solution, and the best one, and that there is none: all is decided over the packages alone,
+//! and proved.
 //!
 //! A search for versions promises nothing: what it says is checked at its end, by code that it shares nothing with.
 //!
 //! - [`is_solution`] checks what was picked: the request and each picked version's requirements are satisfied, its
-//!   constraints are respected, and at most one version of a package is picked.
+//!   constraints are respected, and at most one version of a package is picked. Each picked version is allowed: its
+//!   package has it, doesn't exclude it, and isn't locked to another one.
 //! - [`refutes`] checks that there is no solution, by the clauses that a search learnt: lists of [`PackageLiteral`]s.
-//!   One of a clause is true in each solution, by what the packages say and the clauses before it.
+//!   In each solution at least one literal of each clause is true. That follows from what the packages say, and from
+//!   the clauses before it.
+//! - [`ranks`] says how good what was picked is, by wishes, and [`best_up_to`] for how many of them no solution is
+//!   better. [`newest_wishes`] are the wishes for the newest versions of what is requested.
+//! - [`are_needed`] checks that each picked version is needed, by its [`Cause`]: the request offers it, or a wish has
+//!   it, or one that is picked before it needs it. [`find_spare`] finds one that can be left out.
 //!
-//! `specs/Solutions` says both in the words of the provider alone. `selection` has the picked solvables, and decides
-//! what they satisfy; `solution` decides whether they are a solution. `encoding` writes what the packages say as
-//! clauses, over `queries`, about facts of a selection (`literal`, numbered by `atoms`). `clauses` propagates
-//! units over a `trail`, and `watches` says which clauses to visit. `refuting` replays what was learnt.
+//! `specs/Solutions`, `specs/Wishes`, `specs/Needed` and `specs/Newest` say this in the words of the provider alone.
+//!
+//! | files | what they decide |
+//! |---|---|
+//! | `selection`, `allowed`, `solution` | what is picked, what its packages allow, whether it is a solution |
+//! | `literal`, `atoms`, `encoding` | facts of a selection, their numbers, and what packages say of them, as clauses |
+//! | `clauses`, `clause_state`, `trail`, `watches` | what follows from clauses, and which clauses to visit |
+//! | `refuting`, `settling`, `best` | the replay of what was learnt, and then of one wish after another |
+//! | `wish`, `newest`, `ranking` | wishes, those for the newest versions, how good what is picked is |
+//! | `needed`, `offers`, `spare` | causes, what requirements offer, what is left without a version |
+//!
+//! `queries` asks the provider for candidates, and `evidence` is what a search shows.
 #![tactic(auto)]
 
+mod allowed;
 mod atoms;
+mod best;
 mod clause_state;
 mod clauses;
 mod encoding;
+mod evidence;
 mod literal;
+mod needed;
+mod newest;
+mod offers;
 mod package_literal;
 mod queries;
+mod ranking;
 mod refuting;
 mod selection;
+mod settling;
 mod solution;
+mod spare;
 mod trail;
 mod watches;
+mod wish;
 
+pub use best::best_up_to;
+pub use evidence::Evidence;
+pub use needed::{Cause, are_needed};
+pub use newest::newest_wishes;
 pub use package_literal::PackageLiteral;
+pub use ranking::ranks;
 pub use refuting::refutes;
 pub use solution::is_solution;
+pub use spare::find_spare;
+pub use wish::{Alternative, Request, Wish};

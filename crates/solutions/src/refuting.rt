@@ -6,6 +6,7 @@ ghost use Rattle.solutions.specs.declared.literal.Fact.{Fact};
 
 use crate::clauses::Theory;
 use crate::encoding::encoded;
+use crate::evidence::Evidence;
 use crate::literal::Literal;
 use crate::package_literal::PackageLiteral;
 use crate::trail::Trail;
@@ -13,43 +14,42 @@ use resolvo_ids::{SolverId, StoreError};
 use resolvo_pool::{ConditionalRequirement, DependencyProvider, Interner, ProviderFunctions};
 use std::alloc::Allocator;
 
-/// Whether clauses that a search learnt certify that the request has no solution. One literal of such a clause is true
-/// in each solution. A clause counts if it follows by unit propagation from the request, from the dependencies of these
-/// solvables, and from the clauses before it. One that doesn't is passed over. The provider is queried after each
-/// whether to stop.
+/// Whether the evidence certifies that the request has no solution. A learnt clause counts if it follows by unit
+/// propagation from the request, from what the evidence's solvables say, and from the clauses before it. One that
+/// doesn't is passed over. The provider is queried after each whether to stop.
 ///
-/// If the answer is no, there may be a solution or none. Solvables that a package excludes, or that aren't the one that
-/// it is locked to, are candidates like others here.
+/// What a package excludes, or what isn't the one that it is locked to, is no candidate any more: such a solvable says
+/// that it isn't picked. Each other one says what it needs. What a solvable says counts only if it is among the
+/// evidence's solvables. If the answer is no, there may be a solution or none.
 ///
-/// Costs time and memory in the request with its candidates, the dependencies of these solvables, the lists of
-/// conditions and the pairs that constraints forbid; and for each learnt clause in what its propagation visits: a
-/// clause is visited when one of two of its literals becomes false.
+/// Costs time and memory in the request with its candidates, the dependencies of the evidence's solvables and the
+/// candidates of each one's package, the lists of conditions and the pairs that constraints forbid; and for each learnt
+/// clause in what its propagation visits: a clause is visited when one of two of its literals becomes false.
 pub fn refutes<D: DependencyProvider>(
     alloc: D::Alloc,
     provider: &D,
     requested: &[ConditionalRequirement],
-    solvables: &[D::SolvableId],
-    learnt: &[Vec<PackageLiteral<D::SolvableId>, D::Alloc>],
+    evidence: &Evidence<D::SolvableId, D::Alloc>,
 ) -> Result<bool, StoreError>
     ensures { IfOk result (λ yes. yes ≡ true →
         IsUnsolvable (⟦<D as ProviderFunctions>⟧.functions provider.now) requested.now) }
 {
-    let theory = encoded(alloc, provider, requested, solvables)?;
+    let theory = encoded(alloc, provider, requested, evidence.solvables)?;
     let mut replay = Replay::new(alloc, theory)?;
-    replay.all(provider, learnt)
+    replay.all(provider, evidence.learnt)
 }
 
 /// What was certified so far.
 #[derive(Drop)]
-struct Replay<N: SolverId<A>, S: SolverId<A>, A: Allocator + Copy> {
-    alloc: A,
-    theory: Theory<N, S, A>,
-    trail: Trail<N, S, A>,
+pub(crate) struct Replay<N: SolverId<A>, S: SolverId<A>, A: Allocator + Copy> {
+    pub(crate) alloc: A,
+    pub(crate) theory: Theory<N, S, A>,
+    pub(crate) trail: Trail<N, S, A>,
 }
 
 impl<N: SolverId<A>, S: SolverId<A>, A: Allocator + Copy> Replay<N, S, A> {
     /// Nothing was certified so far.
-    fn new(alloc: A, theory: Theory<N, S, A>) -> Result<Self, StoreError>
+    pub(crate) fn new(alloc: A, theory: Theory<N, S, A>) -> Result<Self, StoreError>
         ensures theory { IfOk result (λ replay. replay.theory ≡ theory) }
         ensures trail { IfOk result (λ replay. replay.trail.literals.items ≡ []) }
     {
@@ -62,7 +62,7 @@ impl<N: SolverId<A>, S: SolverId<A>, A: Allocator + Copy> Replay<N, S, A> {
     }
 
     /// Replays learnt clauses. Answers whether they contradict what is known.
-    fn all<D: DependencyProvider>(
+    pub(crate) fn all<D: DependencyProvider>(
         &mut self,
         provider: &D,
         learnt: &[Vec<PackageLiteral<S>, A>],
@@ -104,7 +104,7 @@ impl<N: SolverId<A>, S: SolverId<A>, A: Allocator + Copy> Replay<N, S, A> {
     }
 
     /// Whether it follows that not all of the literals are true.
-    fn are_refuted(&mut self, literals: &[Literal<N, S>]) -> Result<bool, StoreError>
+    pub(crate) fn are_refuted(&mut self, literals: &[Literal<N, S>]) -> Result<bool, StoreError>
         ensures refuted { IfOk result (λ yes. yes ≡ true → (holds : Fact N S → Bool) → IsOneAName holds →
             AreSatisfied holds self.new.theory.clauses.items → AreTrue holds self.new.trail.literals.items →
             AreTrue holds literals.now → ⊥) }

@@ -75,7 +75,7 @@ impl<'p, D: DependencyProvider> Selection<'p, D> {
     }
 
     /// Whether a condition holds. It is converted to its normal form, which may be large.
-    fn condition_holds(&self, condition: ConditionId) -> Result<bool, StoreError>
+    pub(crate) fn condition_holds(&self, condition: ConditionId) -> Result<bool, StoreError>
         requires { (D.universe self.now.provider.now).knows_condition condition ≡ true }
         ensures ok { IfOk result (λ yes. Decides yes
             (ConditionHolds (⟦<D as ProviderFunctions>⟧.functions self.now.provider.now)

@@ -3,15 +3,17 @@ ghost use Rattle.std.specs.Prelude.{◌≡◌, true, All, map, IfOk};
 ghost use Rattle.std.specs.Bool.{Decides};
 ghost use Rattle.std.specs.List.{list_all, list_any, IsDistinct};
 ghost use Rattle.solutions.specs.Solutions.{AreNeedsSatisfied, IsSatisfied, IsSolution, is_respected};
+ghost use Rattle.solutions.specs.Truth.{IsFit};
 
+use crate::allowed::is_allowed;
 use crate::selection::Selection;
 use resolvo_ids::{IdSet, SolverId, StoreError, VersionSetId};
 use resolvo_pool::{
     ConditionalRequirement, Dependencies, DependencyProvider, Interner, ProviderFunctions,
 };
 
-/// Whether these solvables are a solution of the request. Each of them is visited once, with what it needs. Refused
-/// `IdSpace` if an id is too large for a set.
+/// Whether these solvables are a solution of the request. Each of them is visited once, with its package and what it
+/// needs. Refused `IdSpace` if an id is too large for a set.
 pub fn is_solution<D: DependencyProvider>(
     alloc: D::Alloc,
     provider: &D,
@@ -28,7 +30,7 @@ pub fn is_solution<D: DependencyProvider>(
     if !are_satisfied(&selection, requested)? {
         return Ok(false);
     }
-    are_all_needs_satisfied(&selection, picked)
+    are_all_fit(&selection, picked)
 }
 
 /// Whether the solvables are known, and no two of them are of one package.
@@ -56,7 +58,7 @@ fn are_of_different_packages<D: DependencyProvider>(
 }
 
 /// The selection of these solvables.
-fn select<'p, D: DependencyProvider>(
+pub(crate) fn select<'p, D: DependencyProvider>(
     alloc: D::Alloc,
     provider: &'p D,
     solvables: &[D::SolvableId],
@@ -80,7 +82,7 @@ fn select<'p, D: DependencyProvider>(
 }
 
 /// Whether each of the requirements is satisfied.
-fn are_satisfied<D: DependencyProvider>(
+pub(crate) fn are_satisfied<D: DependencyProvider>(
     selection: &Selection<D>,
     requirements: &[ConditionalRequirement],
 ) -> Result<bool, StoreError>
@@ -113,26 +115,42 @@ fn are_respected<D: DependencyProvider>(
     Ok(true)
 }
 
-/// Whether the needs of each of the solvables are satisfied.
-fn are_all_needs_satisfied<D: DependencyProvider>(
+/// Whether each of the solvables is allowed, and its needs are satisfied.
+fn are_all_fit<D: DependencyProvider>(
     selection: &Selection<D>,
     solvables: &[D::SolvableId],
 ) -> Result<bool, StoreError>
     requires { All (λ s. (D.universe selection.now.provider.now).knows_solvable s ≡ true) solvables.now }
-    ensures { IfOk result (λ yes. Decides yes (All (λ s. AreNeedsSatisfied
-        (⟦<D as ProviderFunctions>⟧.functions selection.now.provider.now) (D.SolvableId.Set.has selection.now.picked)
-        ((D.answers selection.now.provider.now).needs s)) solvables.now)) }
+    ensures { IfOk result (λ yes. Decides yes (All (IsFit
+        (⟦<D as ProviderFunctions>⟧.functions selection.now.provider.now)
+        (D.SolvableId.Set.has selection.now.picked)) solvables.now)) }
 {
     for solvable in solvables {
-        if !are_needs_satisfied(selection, *solvable)? {
+        if !is_fit(selection, *solvable)? {
             return Ok(false);
         }
     }
     Ok(true)
 }
 
+/// Whether a solvable is allowed, and its needs are satisfied.
+fn is_fit<D: DependencyProvider>(
+    selection: &Selection<D>,
+    solvable: D::SolvableId,
+) -> Result<bool, StoreError>
+    requires { (D.universe selection.now.provider.now).knows_solvable solvable ≡ true }
+    ensures { IfOk result (λ yes. Decides yes (IsFit
+        (⟦<D as ProviderFunctions>⟧.functions selection.now.provider.now)
+        (D.SolvableId.Set.has selection.now.picked) solvable)) }
+{
+    if !is_allowed(selection.alloc, selection.provider, solvable)? {
+        return Ok(false);
+    }
+    are_needs_satisfied(selection, solvable)
+}
+
 /// Whether the needs of a solvable are satisfied.
-fn are_needs_satisfied<D: DependencyProvider>(
+pub(crate) fn are_needs_satisfied<D: DependencyProvider>(
     selection: &Selection<D>,
     solvable: D::SolvableId,
 ) -> Result<bool, StoreError>

@@ -1,5 +1,5 @@
-//! Tests of what no contract can say of the library's crates: that memory which is there is found, what a refusal of it comes to,
-//! and texts and hashes.
+//! Tests of what no contract can say of the library's crates: that memory which is there is found, what a refusal of it
+//! comes to, and texts and hashes.
 //!
 //! What a call answers is proved, and so is what a refusal leaves. So each call that takes memory is made, whichever
 //! request of it is refused, and so are calls that take none (`each_request`): of arenas, maps and sets by ids

@@ -51,7 +51,8 @@ const CONFLICT: &str = "\
     idle 1\n";
 
 /// Shows that two conflicts cost two dependencies more than the four that are picked, and that `middle` 2 is queried
-/// once, though it is undone with them.
+/// once, though it is undone with them. The check queries them all again: what `right` 3 and 2 need shows that no newer
+/// `right` can be picked.
 #[test]
 fn what_is_tried_is_queried_once(rt: HostRuntime) -> Result<(), Fail> {
     let seen = search_text(rt.alloc(), CONFLICT, AMPLE)?;
@@ -62,7 +63,7 @@ fn what_is_tried_is_queried_once(rt: HostRuntime) -> Result<(), Fail> {
     );
     assert_eq!(rt;
         seen.again.text.as_str(),
-        "left 2; middle 2; right 1; shared 1; "
+        "left 2; middle 2; right 1; shared 1; right 3; right 2; "
     );
     assert_eq!(rt; seen.questions, 4 * 2 + 6 + 2);
     Ok(())

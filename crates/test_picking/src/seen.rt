@@ -111,7 +111,7 @@ fn search<D: DependencyProvider>(
 /// How a search ended.
 fn end_of<N: Drop, S: Drop, A: Allocator>(found: Result<Answer<N, S, A>, StoreError>) -> End {
     match found {
-        Ok(Answer::Picked(solvables)) => End::Picked(solvables.len()),
+        Ok(Answer::Picked(choice)) => End::Picked(choice.solvables.len()),
         Ok(Answer::Unsolvable(_)) => End::Unsolvable,
         Ok(Answer::Uncertified(_)) => End::Uncertified,
         Ok(Answer::StepsUsed) => End::StepsUsed,

@@ -19,7 +19,7 @@ pub(crate) struct Watched<'p, D: DependencyProvider> {
     questions_before: Cell<u32>,
     /// The solvables whose dependencies were queried.
     queried: RefCell<Vec<D::SolvableId, D::Alloc>>,
-    /// Those for which they were queried again.
+    /// Those for which they were queried again, once or more often.
     again: RefCell<Vec<D::SolvableId, D::Alloc>>,
 }
 
@@ -62,11 +62,13 @@ impl<'p, D: DependencyProvider> Watched<'p, D> {
         ensures { IfErr result (λ e. e ≡ OutOfMemory) }
     {
         self.questions_before.set(self.questions.get());
-        if is_noted(&self.queried, solvable) {
-            add(&self.again, solvable)
-        } else {
-            add(&self.queried, solvable)
+        if !is_noted(&self.queried, solvable) {
+            return add(&self.queried, solvable);
         }
+        if !is_noted(&self.again, solvable) {
+            return add(&self.again, solvable);
+        }
+        Ok(())
     }
 }
 

@@ -15,8 +15,8 @@ use typed_ids::StoreError;
 /// What is done with a new store.
 #[derive(Clone, Copy)]
 pub(crate) enum Task<'t> {
-    /// It obeys the commands one by one (`step`). The output has the replies, then the literals of all clauses, the next
-    /// decision and the provider's counts.
+    /// It obeys the commands one by one (`step`). The output has the replies, then the literals of all clauses, the
+    /// next decision and the provider's counts.
     Steps,
     /// As `Steps`, but `Standard` is set before each decision, to the first and the second value in turn.
     Set(bool, bool),
@@ -24,8 +24,8 @@ pub(crate) enum Task<'t> {
     Run,
     /// It obeys the commands. The output has the texts of its clauses.
     Texts,
-    /// It obeys the commands, while a few of their requests for memory are refused. The output has each reply that isn't
-    /// one of these lines.
+    /// It obeys the commands, while a few of their requests for memory are refused. The output has each reply that
+    /// isn't one of these lines.
     Few(&'t str),
     /// One request for memory is refused, as the fate says. The output has the replies to the commands, and then to the
     /// trial's probes, which show the store's state.

@@ -76,6 +76,8 @@ module _ (c : Packages) where
       candidates = named;
       matches = λ v s. is_within (slice_get c.sets v.0) (version s);
       favored = λ n. best;
+      locked = λ n. None;
+      excluded = λ n. [];
       order = λ list. fold (λ sorted s. inserted s sorted) [] list;
       needs = λ s. Known [] [];
     };

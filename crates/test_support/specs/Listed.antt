@@ -1,11 +1,12 @@
 -- What a provider of plain lists answers. A solvable's number is its place in the list.
 use Rattle.std.specs.Prelude.{◌≡◌, ℕ, ◌<◌, ◌≤◌, ◌+◌, ◌%◌, Bool, true, false, ◌&&◌, ◌==◌}
 use Rattle.std.specs.Prelude.{if◌then◌else◌, nat_le, nat_lt, List, [], ◌∷◌, ◌++◌, codes, decimal}
-use Rattle.std.specs.Prelude.{length, map, reverse, slice_index_or, All, Option, option_map}
+use Rattle.std.specs.Prelude.{length, map, reverse, slice_index_or, All, Option, None, Some, option_map}
 use Rattle.std.specs.List.{AllByRecursion, list_all}
 use Rattle.std.specs.Char.{encode_utf8}
 use Rattle.std.proofs.lemmas.List.Elements.{All-from_recursion, All-append}
 use Rattle.std.proofs.Common.{arith, rules, cond, refl, ap, sym, ◌∙◌}
+use Rattle.typed_ids.specs.declared.string_id.StringId.{StringId}
 use Rattle.typed_ids.specs.declared.version_set_id.VersionSetId.{VersionSetId}
 use Rattle.typed_ids.specs.declared.version_set_union_id.VersionSetUnionId.{VersionSetUnionId}
 use Rattle.providers.specs.declared.condition.Condition.TheVariants.{Requirement}
@@ -66,6 +67,11 @@ range_text range =
 abbrev pub several : List ℕ
 several = codes "several"
 
+-- the locked one is excluded too
+abbrev pub excluded_with : {S : Type 0} → Option S → List (S × StringId)
+excluded_with None = []
+excluded_with (Some s) = (s, record { 0 = 0 }) ∷ []
+
 -- ---- names N and solvables S that are told by their numbers
 module _ {N S : Type 0} where
   -- which ids the lists know, and how they belong together
@@ -95,12 +101,14 @@ module _ {N S : Type 0} where
   }
 
   -- what the lists answer
-  abbrev pub answers_of : (N → ℕ) → (S → ℕ) → (ℕ → S) → List Package → List VersionRange → Option ℕ →
-      Listing → Answers N S
-  answers_of name_number number numbered packages ranges favored listing = record {
+  abbrev pub answers_of : (N → ℕ) → (S → ℕ) → (ℕ → S) → List Package → List VersionRange →
+      (favored locked : Option ℕ) → Listing → Answers N S
+  answers_of name_number number numbered packages ranges favored locked listing = record {
     candidates = λ n. listed listing (map numbered (places_of (name_number n) 0 packages));
     matches = λ v s. is_within (range_at ranges v) (version_at packages (number s));
     favored = λ n. option_map numbered favored;
+    locked = λ n. option_map numbered locked;
+    excluded = λ n. excluded_with (option_map numbered locked);
     order = λ list. reverse list;
     needs = λ s. Known [] [];
   }

@@ -179,7 +179,7 @@ impl<N: SolverId<A> + Numbered, S: SolverId<A> + Distinct, A: Allocator + Copy> 
     type Cancel = u32;
 
     ghost answers = { λ p. answers_of N.number_of S.number_of S.id_of p.listed.packages.items p.listed.ranges.items
-        p.listed.favored p.manner.listing };
+        p.listed.favored p.manner.locked p.manner.listing };
 
     ghost candidates_known = { λ p n. candidates_known S.number_of S.id_of S.number_of_id
         (N.number_of n) p.listed.packages.items p.manner.listing };

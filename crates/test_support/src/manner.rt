@@ -1,8 +1,8 @@
 //! What a provider tells beside its candidates, when it stops, and how often it was asked.
 ghost use Rattle.std.specs.Prelude.{◌≡◌, None, option_map, IfOk, IfErr};
 ghost use Rattle.typed_ids.specs.declared.error.StoreError.TheVariants.{OutOfMemory};
-ghost use Rattle.providers.specs.Provider.{candidates_of, favored_of};
-ghost use Rattle.test_support.specs.Listed.{listed};
+ghost use Rattle.providers.specs.Provider.{candidates_of, excluded_of, favored_of, locked_of};
+ghost use Rattle.test_support.specs.Listed.{excluded_with, listed};
 ghost use Rattle.test_support.specs.declared.manner.Hint.TheVariants as Hint;
 ghost use Rattle.test_support.specs.declared.manner.Listing.TheVariants.{Once};
 ghost use Rattle.test_support.specs.declared.manner.Stops.TheVariants.{Never};
@@ -118,7 +118,7 @@ pub(crate) fn counted(questions: &Cell<u32>) -> u32 {
     number
 }
 
-/// These candidates, told in this manner; none, if there are none and none is favored.
+/// These candidates, told in this manner; none, if there are none and none is favored or locked.
 pub(crate) fn told<S: Numbered, A: Allocator + Copy>(
     alloc: A,
     candidates: &[S],
@@ -127,9 +127,11 @@ pub(crate) fn told<S: Numbered, A: Allocator + Copy>(
 ) -> Result<Option<Candidates<S, A>>, StoreError>
     ensures candidates { IfOk result (λ found. candidates_of found ≡ listed manner.now.listing candidates.now) }
     ensures favored { IfOk result (λ found. favored_of found ≡ option_map S.id_of favored) }
+    ensures locked { IfOk result (λ found. locked_of found ≡ option_map S.id_of manner.now.locked) }
+    ensures excluded { IfOk result (λ found. excluded_of found ≡ excluded_with (option_map S.id_of manner.now.locked)) }
     ensures err { IfErr result (λ e. e ≡ OutOfMemory) }
 {
-    if candidates.is_empty() && favored.is_none() {
+    if candidates.is_empty() && favored.is_none() && manner.locked.is_none() {
         return Ok(None);
     }
     let mut found = Candidates::new(alloc);

@@ -95,7 +95,8 @@ impl<D: DependencyProvider + Drop> ClauseStore<D> {
         ensures memory { IfErr result (λ e. e ≡ OutOfMemory) }
 
         // No requirement is walked twice, whatever the result; and the queue has this trail, unless it was refused.
-        ensures queue_state { WalksEachOnce (⟦<D as Abstract>⟧.store self.old) self.old.queue_state self.new.queue_state }
+        ensures queue_state { WalksEachOnce (⟦<D as Abstract>⟧.store self.old) self.old.queue_state
+            self.new.queue_state }
         ensures in_sync { OnOk result (HasSynced (⟦<D as Abstract>⟧.store self.old).trail self.new.queue_state) }
     {
         let floor = self.trail.take_sync_floor();

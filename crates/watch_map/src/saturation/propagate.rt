@@ -31,7 +31,8 @@ pub(crate) fn propagate<N: Copy, A: Allocator + Copy>(
     requires watched { AreWatched map.old watches.old }
     requires own { WatchOwn (literals_at input.now) (watched_by watches.old) }
     requires from { from ≤ length trail.old.entries }
-    requires satisfied { AreWatchesSatisfied (val_before from trail.old.entries) (val trail.old.entries) (watched_by watches.old) }
+    requires satisfied { AreWatchesSatisfied (val_before from trail.old.entries) (val trail.old.entries)
+        (watched_by watches.old) }
     ensures watched { AreWatched map.new watches.new }
     ensures rearranged { IsRearranged (literals_at input.now) (watched_by watches.old) (watched_by watches.new) }
     ensures implied { HasImplied (literals_at input.now) input.now.level trail.old trail.new }

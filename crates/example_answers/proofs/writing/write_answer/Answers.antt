@@ -9,7 +9,7 @@ returns-in-Unsolvable g c =
       known = search rules;
       none =
           none_is_unsolvable _ _ _ _ _ c.in-Unsolvable.is (c.deref.ensures.value ∙ c.in_ok-requested.ensures)
-          c.in_ok-solvables.ensures.complete;
+          c.in_ok-choice.ensures.none;
       reasons = c.deref-in-Unsolvable.result.now;
       is = search (rules, append_assoc);
     }

@@ -4,6 +4,6 @@ use Rattle.example_index.proofs.reading.reach.Given as goal
 
 abbrev pub invariant-loop : goal.invariant-loop
 invariant-loop l = record {
-  count : count_of l.lists.items ≡ count_of l.fn.lists.items;
-  longer : l.counter ≤ length l.lists.items;
+  count : count_of l.packages.items ≡ count_of l.fn.packages.items;
+  longer : l.counter ≤ length l.packages.items;
 }

@@ -1,8 +1,9 @@
 use Rattle.std.proofs.Common.{subst}
 use Rattle.resolvo_pool.specs.Functions.{Provider, gathered}
 use Rattle.solutions.specs.Solutions.{IsSolution}
-use Rattle.solutions.specs.Truth.{AreAllNeedsSatisfied, AreSatisfiedUnless, AreStillSatisfied}
+use Rattle.solutions.specs.Truth.{AreAllFit, AreSatisfiedUnless, AreStillSatisfied}
 use Rattle.solutions.proofs.EncodingLemmas as L
+use Rattle.solutions.proofs.SolutionLemmas.{solution_is_fit}
 use Rattle.solutions.proofs.encoding.encoded_by.Given.{Over}
 use Rattle.solutions.proofs.encoding.encoded_by.Goals as goal
 
@@ -21,4 +22,4 @@ returns g c =
     subst (λ clauses. AreStillSatisfied p (IsSolution p requested) clauses third) c.in_ok-theory.ensures
     (L.still_then p (IsSolution p requested) first second third
     (L.still_where p (λ picked. AreSatisfiedUnless p c.deref.result.now picked requested) (IsSolution p requested) first second (λ picked s no. s.satisfied) c.in_ok-require_all.ensures)
-    (L.still_where p (AreAllNeedsSatisfied p) (IsSolution p requested) second third (λ picked s. s.needs_satisfied) c.in_ok-encode_all.ensures))
+    (L.still_where p (AreAllFit p) (IsSolution p requested) second third (λ picked s. solution_is_fit p requested picked s) c.in_ok-encode_all.ensures))

@@ -2,9 +2,10 @@ use Rattle.std.proofs.Common.{subst}
 use Rattle.std.specs.Bool.{Decides}
 use Rattle.std.specs.List.{All}
 use Rattle.resolvo_pool.specs.Functions.{Provider, gathered}
-use Rattle.solutions.specs.Solutions.{AreNeedsSatisfied, IsSatisfied}
+use Rattle.solutions.specs.Solutions.{IsSatisfied}
+use Rattle.solutions.specs.Truth.{IsFit}
 use Rattle.solutions.proofs.DecisionLemmas.{answered}
-use Rattle.solutions.proofs.SolutionLemmas.{needs_decide, requested_fails}
+use Rattle.solutions.proofs.SolutionLemmas.{fit_decide, requested_fails}
 use Rattle.solutions.proofs.solution.is_solution.Given.{Over}
 use Rattle.solutions.proofs.solution.is_solution.Goals as goal
 
@@ -31,11 +32,11 @@ returns g c =
     let selection = c.in_ok-selection.selection in
     let has = g.D.SolvableId.Set.IdSet.has selection.picked in
     let same = c.in_ok-selection.ensures.provider in
-    answered c.are_all_needs_satisfied.result
-    (λ b content. needs_decide p requested picked has c.in_ok-selection.ensures.picked
+    answered c.are_all_fit.result
+    (λ b fit. fit_decide p requested picked has c.in_ok-selection.ensures.picked
     c.in_ok-are_of_different_packages.field-0 c.in_ok-are_satisfied.field-0 b
     c.if-not-branch.false c.in_ok-are_of_different_packages.ensures
     c.if-not-branch-2.false
     (subst (λ provider. Decides c.in_ok-are_satisfied.field-0 (All (IsSatisfied (provided g provider) has) requested)) same c.in_ok-are_satisfied.ensures)
-    (subst (λ provider. Decides b (All (λ s. AreNeedsSatisfied (provided g provider) has ((provided g provider).answers.needs s)) picked)) same content))
-    c.are_all_needs_satisfied.ensures
+    (subst (λ provider. Decides b (All (IsFit (provided g provider) has) picked)) same fit))
+    c.are_all_fit.ensures

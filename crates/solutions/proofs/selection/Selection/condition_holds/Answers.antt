@@ -1,4 +1,4 @@
-use Rattle.std.proofs.Common.{◌≡◌, ◌∙◌, Bool, map, sym, ap}
+use Rattle.std.proofs.Common.{◌∙◌, Bool, map, sym, ap}
 use Rattle.resolvo_ids.specs.Types.VersionSetId.{VersionSetId}
 use Rattle.resolvo_pool.specs.Conditions.{form_holds}
 use Rattle.resolvo_pool.specs.Functions.{Provider, gathered}

@@ -1,9 +1,9 @@
 use Rattle.std.proofs.Common.{◌≡◌, true, rules}
 use Rattle.resolvo_pool.specs.Functions.{Provider, gathered}
-use Rattle.solutions.specs.Solutions.{AreNeedsSatisfied}
+use Rattle.solutions.specs.Truth.{IsFit}
 use Rattle.solutions.proofs.DecisionLemmas.{none_fails, next_holds}
-use Rattle.solutions.proofs.solution.are_all_needs_satisfied.Given.{Over}
-use Rattle.solutions.proofs.solution.are_all_needs_satisfied.Goals as goal
+use Rattle.solutions.proofs.solution.are_all_fit.Given.{Over}
+use Rattle.solutions.proofs.solution.are_all_fit.Goals as goal
 
 -- the provider's functions
 abbrev provided : (g : Over) → g.row.D.Denot → Provider g.row.D-NameId.Denot g.row.D-SolvableId.Denot
@@ -14,12 +14,12 @@ pub loop-solvable-preserved : goal.loop-solvable-preserved
 loop-solvable-preserved g c =
     let p = provided g c.args.selection.now.provider.now in
     let has = g.D.SolvableId.Set.IdSet.has c.args.selection.now.picked in
-    let yes : c.in_ok-are_needs_satisfied.field-0 ≡ true = search rules in
-    next_holds (λ s. AreNeedsSatisfied p has (p.answers.needs s)) c.args.solvables.now c.loop-solvable.solvable-index c.solvable-item.result c.loop-solvable-test.true c.solvable-item.is
-    (c.in_ok-are_needs_satisfied.ensures.0 yes) c.loop-solvable.invariant
+    let yes : c.in_ok-is_fit.field-0 ≡ true = search rules in
+    next_holds (IsFit p has) c.args.solvables.now c.loop-solvable.solvable-index c.solvable-item.result c.loop-solvable-test.true c.solvable-item.is
+    (c.in_ok-is_fit.ensures.0 yes) c.loop-solvable.invariant
 
 pub returns : goal.returns
 returns g c =
     let p = provided g c.args.selection.now.provider.now in
     let has = g.D.SolvableId.Set.IdSet.has c.args.selection.now.picked in
-    none_fails (λ s. AreNeedsSatisfied p has (p.answers.needs s)) c.args.solvables.now c.loop-solvable.solvable-index c.loop-solvable-test.false c.loop-solvable.invariant
+    none_fails (IsFit p has) c.args.solvables.now c.loop-solvable.solvable-index c.loop-solvable-test.false c.loop-solvable.invariant

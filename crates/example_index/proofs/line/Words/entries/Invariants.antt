@@ -1,6 +1,6 @@
 use Rattle.std.proofs.Common.{◌≤◌, length}
 use Rattle.example_index.specs.Reading.{IsFurther}
-use Rattle.example_index.proofs.line.Words.needs.Given as goal
+use Rattle.example_index.proofs.line.Words.entries.Given as goal
 
 abbrev pub invariant-entries : goal.invariant-entries
 invariant-entries l = record {

@@ -1,0 +1,52 @@
+use Rattle.std.proofs.Common.{◌≡◌, true, rules, subst, take}
+use Rattle.std.proofs.Math.Path.{fun_ext}
+use Rattle.std.specs.List.{All}
+use Rattle.std.proofs.lemmas.List.{take_all}
+use Rattle.std.proofs.lemmas.List.Elements.{All-nil}
+use Rattle.resolvo_pool.specs.Functions.{Provider, gathered}
+use Rattle.solutions.specs.Needed.{IsCausedBy, IsNeeded}
+use Rattle.solutions.specs.Solutions.{is_among}
+use Rattle.solutions.specs.Wishes.{alternatives_of}
+use Rattle.solutions.proofs.DecisionLemmas.{next_holds}
+use Rattle.solutions.proofs.NeededLemmas.{needed_by}
+use Rattle.solutions.proofs.needed.are_needed.Given.{Over}
+use Rattle.solutions.proofs.needed.are_needed.Goals as goal
+
+-- the provider's functions
+abbrev provided : (g : Over) → g.row.D.Denot → Provider g.row.D-NameId.Denot g.row.D-SolvableId.Denot
+provided g = gathered g.D.NameId.PartialEq.eq g.D.SolvableId.PartialEq.eq g.D.NameId.Slots.IdMap.is_too_large g.D.SolvableId.Slots.IdMap.is_too_large
+    g.D.SolvableId.Set.IdSet.is_too_large g.D.NameId.SolverId.are_many g.D.Interner.universe g.D.DependencyProvider.answers
+
+pub loop-place-init : goal.loop-place-init
+loop-place-init g c =
+    All-nil (IsNeeded (provided g c.args.provider.now) c.args.request.now.requirements.now (alternatives_of c.args.request.now.wishes.now) c.args.picked.now)
+
+pub loop-place-preserved : goal.loop-place-preserved
+loop-place-preserved g c =
+    let p = provided g c.args.provider.now in
+    let picked = c.args.picked.now in
+    let requirements = c.args.request.now.requirements.now in
+    let wishes = alternatives_of c.args.request.now.wishes.now in
+    let place = c.loop-place.place in
+    let x = c.index-picked-place.result in
+    let cause = c.in-Some.cause.now in
+    let selection = c.in_ok-selection.selection in
+    let has = g.D.SolvableId.Set.IdSet.has selection.picked in
+    let before = c.before-in-loop-place.result.now in
+    let yes : c.in_ok-is_caused_by.field-0 ≡ true = search rules in
+    let selected : IsCausedBy (provided g selection.provider.now) has requirements wishes before cause x = c.in_ok-is_caused_by.ensures yes in
+    let given : IsCausedBy p has requirements wishes before cause x =
+    subst (λ provider. IsCausedBy (provided g provider) has requirements wishes before cause x) c.in_ok-selection.ensures.provider selected in
+    let among : IsCausedBy p (is_among p picked) requirements wishes before cause x =
+    subst (λ h. IsCausedBy p h requirements wishes before cause x) (fun_ext c.in_ok-selection.ensures.picked) given in
+    let caused : IsCausedBy p (is_among p picked) requirements wishes (take place picked) cause x =
+    subst (λ list. IsCausedBy p (is_among p picked) requirements wishes list cause x) c.before-in-loop-place.ensures among in
+    next_holds (IsNeeded p requirements wishes picked) picked place x c.loop-place-test.true c.index-picked-place.is
+    (needed_by p requirements wishes picked place c.loop-place.invariant cause x caused) c.loop-place.invariant
+
+pub returns : goal.returns
+returns g c =
+    let p = provided g c.args.provider.now in
+    let picked = c.args.picked.now in
+    λ e. subst (All (IsNeeded p c.args.request.now.requirements.now (alternatives_of c.args.request.now.wishes.now) picked))
+    (take_all c.loop-place.place picked c.loop-place-test.false) c.loop-place.invariant

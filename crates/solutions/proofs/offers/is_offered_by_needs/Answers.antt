@@ -1,0 +1,25 @@
+use Rattle.std.proofs.Common.{◌≡◌, ◌∙◌, ap, sym, subst}
+use Rattle.std.specs.Bool.{Decides}
+use Rattle.resolvo_pool.specs.Dependencies.{Known, needs_of}
+use Rattle.resolvo_pool.specs.Functions.{Provider, gathered}
+use Rattle.solutions.specs.Needed.{IsOfferedBy, IsOfferedByNeeds}
+use Rattle.solutions.proofs.DecisionLemmas.{answered}
+use Rattle.solutions.proofs.offers.is_offered_by_needs.Given.{Over}
+use Rattle.solutions.proofs.offers.is_offered_by_needs.Goals as goal
+
+-- the provider's functions
+abbrev provided : (g : Over) → g.row.D.Denot → Provider g.row.D-NameId.Denot g.row.D-SolvableId.Denot
+provided g = gathered g.D.NameId.PartialEq.eq g.D.SolvableId.PartialEq.eq g.D.NameId.Slots.IdMap.is_too_large g.D.SolvableId.Slots.IdMap.is_too_large
+    g.D.SolvableId.Set.IdSet.is_too_large g.D.NameId.SolverId.are_many g.D.Interner.universe g.D.DependencyProvider.answers
+
+pub returns-in-Known : goal.returns-in-Known
+returns-in-Known g c =
+    let p = provided g c.args.selection.now.provider.now in
+    let has = g.D.SolvableId.Set.IdSet.has c.args.selection.now.picked in
+    let needs = c.in-Known.needs in
+    let known : p.answers.needs c.args.parent ≡ Known needs.requirements.items needs.constrains.items =
+    sym c.in_ok-needs.ensures.ok ∙ ap needs_of c.in-Known.is in
+    answered c.is_offered_by.result
+    (λ yes decides. subst (λ n. Decides yes (IsOfferedByNeeds p has n c.args.solvable)) (sym known)
+    (subst (λ list. Decides yes (IsOfferedBy p has list c.args.solvable)) c.deref.ensures.value decides))
+    c.is_offered_by.ensures
