@@ -1,9 +1,9 @@
-"""The promises, as docs/PROMISES.md and docs/PROMISES-OF-PARTS.md have them."""
+"""The promises, as the pages docs/PROMISES*.md have them."""
 import re
 
 import mutants
 
-PAGES = [mutants.HERE.parent / "docs" / name for name in ("PROMISES.md", "PROMISES-OF-PARTS.md")]
+PAGES = [mutants.HERE.parent / "docs" / name for name in ("PROMISES.md", "PROMISES-OF-PARTS.md", "PROMISES-OF-PICKING.md")]
 
 
 def chapters():
