@@ -5,16 +5,18 @@ not to be picked where it has false.
 """
 import itertools
 
+from indexes import said
+
 
 def is_reason(index, lines):
     """Whether the index says each of these lines, and no choice meets all of them. Two versions of a package may be
     picked together unless a line says otherwise.
     """
-    said = {}
+    known = {}
     for line, clauses in said_by(index):
-        said.setdefault(line, []).extend(clauses)
-    clauses = [clause for line in lines for clause in said.get(line, ())]
-    return all(line in said for line in lines) and not can_be_met([it for it in clauses if it is not None])
+        known.setdefault(line, []).extend(clauses)
+    clauses = [clause for line in lines for clause in known.get(line, ())]
+    return all(line in known for line in lines) and not can_be_met([it for it in clauses if it is not None])
 
 
 def said_by(index):
@@ -27,6 +29,11 @@ def said_by(index):
     for line, parent, limit in index.all_limits():
         outside = set(index.of_name(limit[0])) - set(index.among([limit]))
         yield line, [clause_of([parent, version], []) for version in outside]
+    for version in index.excluded:
+        yield f"{said(version)} is excluded", [clause_of([version], [])]
+    for name, locked in index.locked.items():
+        others = set(index.of_name(name)) - {locked}
+        yield f"{said(locked)} is locked", [clause_of([other], []) for other in others]
     for name in index.versions:
         pairs = itertools.combinations(index.of_name(name), 2)
         yield f"one version of {name}", [clause_of(pair, []) for pair in pairs]
