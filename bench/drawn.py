@@ -140,7 +140,8 @@ def by_program(program, index, limit):
     lines = wrote.splitlines()[1:]
     if lines[:1] == ["none"] or lines[:1] and lines[0].startswith("gave up"):
         return None, lines[0], *used
-    return picked_of(lines), "found", *used
+    word = lines.pop() if lines[-1:] and lines[-1].startswith("the best by") else "found"
+    return picked_of(lines), word, *used
 
 
 def by_cadical(index, limit):

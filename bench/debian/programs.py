@@ -73,7 +73,8 @@ class PickVersions:
         lines = ran.text.splitlines()[1:]
         if lines and all(line in solvables for line in lines):
             return Answer([(solvables[line].name, solvables[line].version) for line in lines], "", ran.seconds)
-        return Answer([], lines[0] if lines else "nothing", ran.seconds)
+        said = [line for line in lines if line not in solvables]
+        return Answer([], said[0] if said else "nothing", ran.seconds)
 
     def instructions(self, index):
         """How many instructions it takes, as valgrind counts them, or none where it can't."""
