@@ -1,0 +1,4 @@
+pub mod Cuts
+pub mod EachLemmas
+pub mod LineLemmas
+pub mod PartLemmas

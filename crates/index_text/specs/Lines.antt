@@ -1,0 +1,56 @@
+-- The lines of an index: what each says, which of them are one index, and which one is unreadable.
+use Rattle.std.specs.Prelude.{ℕ, Bool, true, false, List, [], ◌∷◌, Option, None, Some}
+use Rattle.std.specs.Prelude.{option_map, option_and_then, if◌then◌else◌, codes}
+use Rattle.std.specs.List.{list_all, join_by}
+use Rattle.std.specs.Str.{bytes_eq}
+use Rattle.index_text.specs.Entries.{EntryText, Needs, entries_of}
+use Rattle.index_text.specs.Sets.{version_of}
+
+-- what is said of a version: what it needs and limits, or why it may not be picked, or why nobody knows what it needs
+pub data VersionIs : Type 0 where
+  Offered : (entries : List EntryText) → VersionIs
+  Excluded : (reason : List ℕ) → VersionIs
+  Unknown : (reason : List ℕ) → VersionIs
+
+pub record VersionText : Type 0 where
+  pub name : List ℕ
+  pub version : ℕ
+  pub is : VersionIs
+
+-- words with a blank between each and the next
+abbrev pub joined : List (List ℕ) → List ℕ
+joined words = join_by (λ word. word) (codes " ") words
+
+-- what is behind a name and a version
+abbrev pub is_of : List (List ℕ) → Option VersionIs
+is_of [] = Some (Offered [])
+is_of (keyword ∷ words) =
+    if bytes_eq keyword (codes "excluded") then Some (Excluded (joined words))
+    else if bytes_eq keyword (codes "unknown") then Some (Unknown (joined words))
+    else option_map Offered (entries_of (keyword ∷ words))
+
+-- VERSION, and what is said of it
+abbrev pub version_named : List ℕ → List (List ℕ) → Option VersionText
+version_named name (version ∷ words) =
+    option_and_then (λ v. option_map (λ is. record { name = name; version = v; is = is }) (is_of words))
+    (version_of version)
+version_named name [] = None
+
+-- NAME VERSION, and what is said of it; no name is `request`
+abbrev pub version_said : List (List ℕ) → Option VersionText
+version_said (name ∷ words) = if bytes_eq name (codes "request") then None else version_named name words
+version_said [] = None
+
+abbrev pub is_need : EntryText → Bool
+is_need (Needs need) = true
+is_need _ = false
+
+-- entries, if all are needs
+abbrev pub all_needs : List EntryText → Option (List EntryText)
+all_needs entries = if list_all is_need entries then Some entries else None
+
+-- request, and what is needed
+abbrev pub request_said : List (List ℕ) → Option (List EntryText)
+request_said [] = None
+request_said (keyword ∷ words) =
+    if bytes_eq keyword (codes "request") then option_and_then all_needs (entries_of words) else None

@@ -1,0 +1,28 @@
+//! What the text of an index says: requests, and versions of packages with what each needs.
+//!
+//!     # a comment
+//!     request needs a 1..9
+//!     a 1 needs b 1..3
+//!     a 2 needs b 2..4 if c 1..2 and d 1..9 needs d 1..9 | e 1..9
+//!     b 2 favored limits c 1..2
+//!     b 3 excluded does not build
+//!
+//! docs/INDEX.md has the format. A text may have several indexes, each of which begins with a `request` line. [`split`]
+//! finds the lines of each, and [`read_request`] and [`read_version`] read one line. Nothing is known here of ids: who
+//! reads an index makes of it what a resolver needs (`example_index`).
+//!
+//! `specs/` has the whole format: a contract says of each function that it reads just that, and nothing else.
+#![tactic(auto)]
+
+mod entry;
+mod indexes;
+mod line;
+mod set;
+mod version;
+mod words;
+
+pub use entry::{Entry, Need};
+pub use indexes::split;
+pub use line::Line;
+pub use set::{Set, Sets};
+pub use version::{State, Version, read_request, read_version};
