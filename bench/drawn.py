@@ -57,7 +57,7 @@ class Index:
         self.versions[name, number] = list(needs), list(limits)
 
     def text(self):
-        lines = [" ".join(["request 1", *map(need, self.wanted)])]
+        lines = [" ".join(["request", *map(need, self.wanted)])]
         for (name, number), (needs, limits) in self.versions.items():
             lines.append(" ".join([f"{name} {number}", *map(need, needs), *(f"limits {span(it)}" for it in limits)]))
         return "\n".join(lines) + "\n"

@@ -25,9 +25,9 @@ def union(pool, words):
 
 
 def fill(pool, repo, line):
-    """Adds a line's version, and answers it."""
+    """Adds a line's version, or that of the request, which has no number, and answers it."""
     words = line.replace(" limits ", "\0L").replace(" needs ", "\0N").split("\0")
-    name, version = words[0].split()
+    name, version = "request 1".split() if words[0] == "request" else words[0].split()
     solvable = repo.add_solvable()
     solvable.name, solvable.evr, solvable.arch = name, version, "all"
     solvable.add_deparray(solv.SOLVABLE_PROVIDES, pool.rel2id(pool.str2id(name), pool.str2id(version), solv.REL_EQ))

@@ -31,6 +31,8 @@ def said_by(index):
         yield line, [clause_of([parent, version], []) for version in outside]
     for version in index.excluded:
         yield f"{said(version)} is excluded", [clause_of([version], [])]
+    for version in index.unknown:
+        yield f"{said(version)} needs what can't be told", [clause_of([version], [])]
     for name, locked in index.locked.items():
         others = set(index.of_name(name)) - {locked}
         yield f"{said(locked)} is locked", [clause_of([other], []) for other in others]

@@ -4,11 +4,15 @@ import itertools
 import re
 
 NAME = re.compile(r"[a-z0-9][a-z0-9+.-]*")
+# What an index reads as something else than a name.
+TAKEN = {"request", "needs", "limits", "favored", "locked", "if", "and", "or"}
 
 
 def word(name):
-    """A package's name as a word of an index; what Debian's policy allows in no name has a `%` and its bytes there."""
-    return name if NAME.fullmatch(name) else "%" + name.encode().hex()
+    """A package's name as a word of an index. What Debian's policy allows in no name, and what an index reads as
+    something else, has a `%` and its bytes there.
+    """
+    return name if NAME.fullmatch(name) and name not in TAKEN else "%" + name.encode().hex()
 
 
 class Index:
@@ -46,8 +50,8 @@ class Index:
         return [*self.wanted, *itertools.chain(*map(self.archive.needs, self.solvables))]
 
     def text(self):
-        """The lines of the index. Its first one, which asks, has a name that no package can have."""
-        lines = [[f"request:{self.request} 1", *map(need, self.wanted)]]
+        """The lines of the index, of which the first one is the request."""
+        lines = [["request", *map(need, self.wanted)]]
         for solvable in self.solvables:
             needs = map(need, self.archive.needs(solvable))
             lines.append([f"{word(solvable.name)} {solvable.rank}", *needs, *self.limits(solvable)])
@@ -104,6 +108,10 @@ def ranges(solvables):
 
 
 def table(indexes):
-    """A line for each solvable of the indexes: its name and rank there, and its own name and version."""
+    """A line for each request, in turn, and one for each solvable of the indexes: its name and rank there, and its own
+    name and version.
+    """
+    for index in indexes:
+        yield f"request {index.request}"
     for solvable in dict.fromkeys(itertools.chain(*(index.solvables for index in indexes))):
         yield f"{word(solvable.name)} {solvable.rank} {solvable}"

@@ -13,9 +13,10 @@ extern "C" {
 
 /* What became of an index: what nivolakku_pick returns. */
 enum {
-    /* Versions are picked, and are a solution: the answer is a line "NAME:" and a line for each version. */
+    /* Versions are picked, and are a solution: the answer is the line "request:" and a line for each
+     * version, and maybe one that says by how many wishes for newest versions no solution is shown to be better. */
     NIVOLAKKU_PICKED = 0,
-    /* There is no solution: the answer says so, below the line "NAME:". */
+    /* There is no solution: the answer says so, below the line "request:". */
     NIVOLAKKU_NO_SOLUTION = 1,
     /* The search gave up: the answer says why, or is empty where memory was refused even for it. */
     NIVOLAKKU_GAVE_UP = 2,

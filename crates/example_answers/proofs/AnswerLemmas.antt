@@ -1,33 +1,55 @@
--- What follows from an answer.
-use Rattle.std.proofs.Common.{◌≡◌, ℕ, List, subst}
-use Rattle.std.specs.declared.vec.Vec.{Vec}
+-- What follows from what a search answers.
+use Rattle.std.proofs.Common.{◌≡◌, ◌∙◌, ℕ, List, [], ◌++◌, length, vec_len, ap, subst, append_assoc}
+use Rattle.std.proofs.lemmas.List.{length-map}
 use Rattle.resolvo_pool.specs.Functions.{Provider}
 use Rattle.resolvo_pool.specs.Texts.{Texts}
 use Rattle.resolvo_pool.specs.Types.ConditionalRequirement.{ConditionalRequirement}
-use Rattle.solutions.specs.Solutions.{IsUnsolvable}
-use Rattle.picking.specs.Answers.{FindsNone}
+use Rattle.solutions.specs.Newest.{newest}
+use Rattle.solutions.specs.Wishes.{rank}
+use Rattle.picking.specs.Answers.{PicksBest, PicksNeeded, PicksNoneSpare, PicksRanked, PicksSolution}
 use Rattle.picking.specs.declared.finding.Answer.{Answer}
 use Rattle.picking.specs.declared.finding.Answer.TheVariants as Search
-use Rattle.picking.specs.declared.reason.Reason.{Reason}
-use Rattle.example_answers.specs.Answers.{IsAnswer, IsAnswerOf, SaysNoSolution, SaysSolution}
-use Rattle.example_answers.specs.declared.outcome.Outcome.{Outcome}
-use Rattle.example_answers.specs.declared.outcome.Outcome.TheVariants.{Picked, NoSolution, GaveUp, Unreadable, Failed}
+use Rattle.picking.specs.declared.finding.Choice.{Choice}
+use Rattle.example_answers.specs.Answers.{IsPicked, SaysSolution, best_line, header, lines_of}
 
--- what answers an index answers some index
-pub of_some : {I N S : Type 0} (functions : I → Provider N S) (texts : I → Texts N S) (first requester : S) → requester ≡ first
-    → (index : I) (outcome : Outcome) (text : List ℕ) → IsAnswer (functions index) (texts index) requester outcome text
-    → IsAnswerOf functions texts first outcome text
-of_some functions texts first requester is index Picked text h =
-    (index, subst (λ s. SaysSolution (functions index) (texts index) s text) is h)
-of_some functions texts first requester is index NoSolution text h =
-    (index, subst (λ s. SaysNoSolution (functions index) (texts index) s text) is h)
-of_some functions texts first requester is index GaveUp text h = h
-of_some functions texts first requester is index Unreadable text h = h
-of_some functions texts first requester is index Failed text h = h
+-- three texts, each behind the one before
+pub in_turn : (a b c text-0 text-1 text-2 text-3 : List ℕ) → text-0 ≡ [] → text-1 ≡ text-0 ++ a → text-2 ≡ text-1 ++ b
+    → text-3 ≡ text-2 ++ c → text-3 ≡ a ++ (b ++ c)
+in_turn a b c text-0 text-1 text-2 text-3 none first second third =
+    third ∙ ap (λ t. t ++ c) (second ∙ ap (λ t. t ++ b) (first ∙ ap (λ t. t ++ a) none)) ∙ append_assoc a b c
 
--- if a search for what is required says that there is no solution, there is none
-pub none_is_unsolvable : {N S A : Type 0} (p : Provider N S) (requested required : List ConditionalRequirement)
-    (answer : Answer N S A) (reasons : Vec (Reason N S) A) → answer ≡ Search.Unsolvable reasons → requested ≡ required
-    → FindsNone p requested answer → IsUnsolvable p required
-none_is_unsolvable p requested required answer reasons is same none =
-    subst (λ w. IsUnsolvable p w) same (subst (λ a. FindsNone p requested a) is none)
+module _ {N S A : Type 0} (p : Provider N S) (requested : List ConditionalRequirement) (answer : Answer N S A)
+    (choice : Choice S A) (is : answer ≡ Search.Picked choice) where
+  -- what a search promises of what it picks
+  pub picked_is : PicksSolution p requested answer → PicksBest p requested (newest p requested) answer
+      → PicksNeeded p requested (newest p requested) answer → PicksNoneSpare p requested (newest p requested) answer
+      → IsPicked p requested choice.solvables.items choice.best_up_to
+  picked_is solution best needed none_spare = record {
+    solution = subst (λ a. PicksSolution p requested a) is solution;
+    best = subst (λ a. PicksBest p requested (newest p requested) a) is best;
+    needed = subst (λ a. PicksNeeded p requested (newest p requested) a) is needed;
+    none_spare = subst (λ a. PicksNoneSpare p requested (newest p requested) a) is none_spare;
+  }
+
+  -- there is a rank for each wish
+  pub as_many_ranks : PicksRanked p (newest p requested) answer → vec_len choice.ranks ≡ length (newest p requested)
+  as_many_ranks ranks =
+      choice.ranks.ok.0 ∙ ap length (subst (λ a. PicksRanked p (newest p requested) a) is ranks)
+      ∙ length-map (newest p requested) (rank p choice.solvables.items)
+
+-- the text of what is picked
+pub says_solution : {N S : Type 0} (p : Provider N S) (texts : Texts N S) (requested : List ConditionalRequirement)
+    (picked shown : List S) (best_up_to wishes : ℕ) (text-0 text-1 text-2 text-3 : List ℕ)
+    → IsPicked p requested picked best_up_to → wishes ≡ length (newest p requested) → shown ≡ picked
+    → text-0 ≡ [] → text-1 ≡ text-0 ++ header → text-2 ≡ text-1 ++ lines_of texts.solvable shown
+    → text-3 ≡ text-2 ++ best_line best_up_to wishes → SaysSolution p texts requested text-3
+says_solution p texts requested picked shown best_up_to wishes text-0 text-1 text-2 text-3 is_picked all same none first
+    second third =
+    record {
+      picked = picked;
+      best_up_to = best_up_to;
+      is_picked = is_picked;
+      is = in_turn header (lines_of texts.solvable picked) (best_line best_up_to (length (newest p requested)))
+          text-0 text-1 text-2 text-3 none first (second ∙ ap (λ s. text-1 ++ lines_of texts.solvable s) same)
+          (third ∙ ap (λ n. text-2 ++ best_line best_up_to n) all);
+    }

@@ -1,3 +1,5 @@
 pub mod Answers
+pub mod Faults
 pub mod Reasons
+pub mod Refusals
 pub mod Status

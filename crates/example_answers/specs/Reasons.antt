@@ -37,22 +37,22 @@ module _ {N S : Type 0} (universe : Universe N S) (texts : Texts N S) where
   text_of_condition (Some condition) =
       if universe.knows_condition condition then text_of_parts (universe.condition condition) else []
 
-  -- if no solvable needs it, the requester does
-  abbrev pub text_of_parent : S → Option S → List ℕ
-  text_of_parent requester None = texts.name (universe.solvable_name requester)
-  text_of_parent requester (Some solvable) = text_of_solvable solvable
+  -- if no solvable needs it, the request does
+  abbrev pub text_of_parent : Option S → List ℕ
+  text_of_parent None = codes "request"
+  text_of_parent (Some solvable) = text_of_solvable solvable
 
-  abbrev pub text_of_need : S → Option S → ConditionalRequirement → List ℕ
-  text_of_need requester parent conditional =
-      text_of_parent requester parent
+  abbrev pub text_of_need : Option S → ConditionalRequirement → List ℕ
+  text_of_need parent conditional =
+      text_of_parent parent
       ++ (codes " needs " ++ (text_of_requirement conditional.requirement ++ text_of_condition conditional.condition))
 
-  abbrev pub text_of_reason : S → Reason N S → List ℕ
-  text_of_reason requester (Needs parent conditional) = text_of_need requester parent conditional
-  text_of_reason requester (Lacks parent conditional) =
-      text_of_need requester parent conditional ++ codes ", and there is none"
-  text_of_reason requester (Limits solvable set) = text_of_solvable solvable ++ (codes " limits " ++ text_of_set set)
-  text_of_reason requester (Unknown solvable string) = text_of_solvable solvable ++ codes " needs what can't be told"
-  text_of_reason requester (Excluded solvable string) = text_of_solvable solvable ++ codes " is excluded"
-  text_of_reason requester (Locked solvable) = text_of_solvable solvable ++ codes " is locked"
-  text_of_reason requester (OneVersion name) = codes "one version of " ++ text_of_name name
+  abbrev pub text_of_reason : Reason N S → List ℕ
+  text_of_reason (Needs parent conditional) = text_of_need parent conditional
+  text_of_reason (Lacks parent conditional) =
+      text_of_need parent conditional ++ codes ", and there is none"
+  text_of_reason (Limits solvable set) = text_of_solvable solvable ++ (codes " limits " ++ text_of_set set)
+  text_of_reason (Unknown solvable string) = text_of_solvable solvable ++ codes " needs what can't be told"
+  text_of_reason (Excluded solvable string) = text_of_solvable solvable ++ codes " is excluded"
+  text_of_reason (Locked solvable) = text_of_solvable solvable ++ codes " is locked"
+  text_of_reason (OneVersion name) = codes "one version of " ++ text_of_name name

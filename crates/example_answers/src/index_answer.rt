@@ -1,11 +1,17 @@
 //! An index and its answer.
-ghost use Rattle.std.specs.Prelude.{◌≡◌, [], IfOk, string_bytes};
-ghost use Rattle.example_answers.specs.Answers.{IsAnswerOf};
+ghost use Rattle.std.specs.Prelude.{◌≡◌, [], IfErr, IfOk, map, string_bytes};
+ghost use Rattle.index_text.specs.Indexes.{index_of};
+ghost use Rattle.index_text.specs.PlainLines.{plain_line, plain_lines};
+ghost use Rattle.example_answers.specs.Answers.{AnswersLines, AnswersText, IsAnswerOf};
+ghost use Rattle.example_answers.specs.Answers.{first_number, index_of_one, refused_text};
+ghost use Rattle.example_answers.specs.Faults.{IsFault, SaysFault};
 
 use crate::outcome::Outcome;
+use crate::refusal::words_of;
 use crate::writing::write_answer;
-use example_index::{IndexFault, Line, SmallIndex};
-use resolvo_ids::{DenseIndex, SolvableId};
+use example_index::{IndexFault, SmallIndex};
+use index_text::Line;
+use resolvo_ids::StoreError;
 use resolvo_pool::{Interner, ProviderFunctions};
 use std::alloc::{AllocError, Global};
 
@@ -19,34 +25,51 @@ pub struct AnswerText {
 /// Answers the index of a text, in no more steps than these. A text without an index is unreadable at its first line,
 /// one that has several at the line where the second begins.
 pub fn answer_text(alloc: Global, text: &[u8], steps: u64) -> Result<AnswerText, AllocError>
-    ensures { IfOk result (λ answered. IsAnswerOf
-        ⟦<SmallIndex as ProviderFunctions>⟧.functions ⟦<SmallIndex as Interner>⟧.texts 0
+    ensures { IfOk result (λ answered. AnswersText
+        ⟦<SmallIndex as ProviderFunctions>⟧.functions ⟦<SmallIndex as Interner>⟧.texts text.now
         answered.outcome (string_bytes answered.text)) }
 {
-    let indexes = match example_index::split(alloc, text) {
-        Ok(indexes) => indexes,
-        Err(refused) => return answer_fault(alloc, IndexFault::Refused(refused)),
-    };
-    match indexes.as_slice() {
+    match index_text::split(alloc, text) {
+        Ok(indexes) => answer_one(alloc, &indexes, steps),
+        Err(_) => Ok(AnswerText {
+            outcome: Outcome::GaveUp,
+            text: refused_text(alloc, StoreError::OutOfMemory)?,
+        }),
+    }
+}
+
+/// Answers the one index of a text.
+fn answer_one(
+    alloc: Global,
+    indexes: &[Vec<Line<'_>>],
+    steps: u64,
+) -> Result<AnswerText, AllocError>
+    ensures { IfOk result (λ answered. IsAnswerOf
+        ⟦<SmallIndex as ProviderFunctions>⟧.functions ⟦<SmallIndex as Interner>⟧.texts
+        (index_of_one (map plain_lines indexes.now))
+        answered.outcome (string_bytes answered.text)) }
+{
+    match indexes {
+        [] => answer_fault(alloc, IndexFault::Unreadable(1)),
         [lines] => answer(alloc, lines, steps),
         [_, next, ..] => answer_fault(alloc, IndexFault::Unreadable(first_number(next))),
-        [] => answer_fault(alloc, IndexFault::Unreadable(1)),
     }
 }
 
 /// The number of the first line.
-fn first_number(lines: &[Line<'_>]) -> u64 {
-    match lines.first() {
-        Some(line) => line.number,
-        None => 1,
+fn first_number(lines: &[Line<'_>]) -> u64
+    ensures { result ≡ first_number (map plain_line lines.now) }
+{
+    match lines {
+        [] => 1,
+        [line, ..] => line.number,
     }
 }
 
-/// Answers the index of these lines, in no more steps than these. The contract speaks of some index; that it is the one
-/// of the lines is tested.
+/// Answers the index of these lines, in no more steps than these.
 pub fn answer(alloc: Global, lines: &[Line<'_>], steps: u64) -> Result<AnswerText, AllocError>
-    ensures { IfOk result (λ answered. IsAnswerOf
-        ⟦<SmallIndex as ProviderFunctions>⟧.functions ⟦<SmallIndex as Interner>⟧.texts 0
+    ensures { IfOk result (λ answered. AnswersLines
+        ⟦<SmallIndex as ProviderFunctions>⟧.functions ⟦<SmallIndex as Interner>⟧.texts (map plain_line lines.now)
         answered.outcome (string_bytes answered.text)) }
 {
     let mut text = String::new(alloc);
@@ -58,9 +81,7 @@ pub fn answer(alloc: Global, lines: &[Line<'_>], steps: u64) -> Result<AnswerTex
 
 /// Says why there is no answer.
 fn answer_fault(alloc: Global, fault: IndexFault) -> Result<AnswerText, AllocError>
-    ensures { IfOk result (λ answered. IsAnswerOf
-        ⟦<SmallIndex as ProviderFunctions>⟧.functions ⟦<SmallIndex as Interner>⟧.texts 0
-        answered.outcome (string_bytes answered.text)) }
+    ensures { IfOk result (λ answered. SaysFault fault answered.outcome (string_bytes answered.text)) }
 {
     match fault {
         IndexFault::Unreadable(number) => Ok(AnswerText {
@@ -69,12 +90,20 @@ fn answer_fault(alloc: Global, fault: IndexFault) -> Result<AnswerText, AllocErr
         }),
         IndexFault::Refused(refused) => Ok(AnswerText {
             outcome: Outcome::GaveUp,
-            text: format!(in alloc; "gave up: {refused}\n")?,
+            text: refused_text(alloc, refused)?,
         }),
     }
 }
 
-/// Reads an index, and writes the answer to its first line to a text that is empty so far.
+/// Says that memory or ids were refused.
+fn refused_text(alloc: Global, refused: StoreError) -> Result<String, AllocError>
+    ensures { IfOk result (λ text. string_bytes text ≡ refused_text refused) }
+{
+    let words = words_of(refused);
+    format!(in alloc; "gave up: {words}\n")
+}
+
+/// Reads an index, and writes the answer to its request to a text that is empty so far.
 fn write_index_answer(
     alloc: Global,
     lines: &[Line<'_>],
@@ -82,12 +111,13 @@ fn write_index_answer(
     text: &mut String,
 ) -> Result<Outcome, IndexFault>
     requires { string_bytes text.old ≡ [] }
-    ensures { IfOk result (λ outcome. IsAnswerOf
-        ⟦<SmallIndex as ProviderFunctions>⟧.functions ⟦<SmallIndex as Interner>⟧.texts 0
+    ensures ok { IfOk result (λ outcome. AnswersLines
+        ⟦<SmallIndex as ProviderFunctions>⟧.functions ⟦<SmallIndex as Interner>⟧.texts (map plain_line lines.now)
         outcome (string_bytes text.new)) }
+    ensures err { IfErr result (IsFault (index_of (map plain_line lines.now))) }
 {
     let index = example_index::read(alloc, lines)?;
-    let outcome = write_answer(alloc, &index, SolvableId::from_index(0), steps, text);
+    let outcome = write_answer(alloc, &index, index.request(), steps, text);
     drop(index);
     Ok(outcome?)
 }

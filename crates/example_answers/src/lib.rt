@@ -1,16 +1,19 @@
 //! What an index is answered, as a text: for the program `pick_versions` and the library `picking_c`.
 //!
-//! [`answer`] reads an index of `example_index`, and searches by `picking` for what its first line requires. The text
-//! has the requester, the name of the first line, and below it a line for each version that is picked, or `none` if
-//! there is no solution, and why (`reasons`); if the search gives up, or a line is unreadable, it says so. The first
-//! line's own version is picked only if another one needs it, and what it limits counts only then. What is picked is
-//! the best solution, and after `none` there is no solution: [`answer`] says so of the text (`specs/Answers`;
-//! `specs/Reasons` has a reason's line).
+//! [`answer_text`] reads the index of a text, and searches by `picking` for what it requests. The answer has the line
+//! `request:`, and below it a line for each version that is picked, or `none` if there is no solution, and why
+//! (`reasons`); if the search gives up, or a line is unreadable, it says so. If the search ends before it is shown that
+//! no solution is better, a last line tells by how many wishes none is.
+//!
+//! All of that is proved of the text of the answer, for the text of the index: what is picked is the best solution of
+//! what the index's lines say, after `none` there is no solution, and a line that is called unreadable is
+//! (`specs/Answers`; `specs/Reasons` has a reason's line). That the reasons are those is not proved.
 #![tactic(auto)]
 
 mod index_answer;
 mod outcome;
 mod reasons;
+mod refusal;
 mod writing;
 
 pub use index_answer::{AnswerText, answer, answer_text};

@@ -12,19 +12,17 @@ use resolvo_pool::{Condition, ConditionalRequirement, Interner, Requirement};
 
 type Done = Result<(), StoreError>;
 
-/// Appends a line for each reason. If no solvable needs something, the requester does.
+/// Appends a line for each reason. If no solvable needs something, the request does.
 pub(crate) fn write_reasons<I: Interner>(
     interner: &I,
-    requester: I::SolvableId,
     reasons: &[Reason<I::NameId, I::SolvableId>],
     text: &mut String<I::Alloc>,
 ) -> Done
-    requires { (I.universe interner.now).knows_solvable requester ≡ true }
     ensures { OnOk result (IsAppended text.old text.new
-        (lines_of (text_of_reason (I.universe interner.now) (I.texts interner.now) requester) reasons.now)) }
+        (lines_of (text_of_reason (I.universe interner.now) (I.texts interner.now)) reasons.now)) }
 {
     for reason in reasons {
-        write_reason(interner, requester, *reason, text)?;
+        write_reason(interner, *reason, text)?;
         text.push_str("\n")?;
     }
     Ok(())
@@ -33,20 +31,16 @@ pub(crate) fn write_reasons<I: Interner>(
 /// Appends a reason.
 fn write_reason<I: Interner>(
     interner: &I,
-    requester: I::SolvableId,
     reason: Reason<I::NameId, I::SolvableId>,
     text: &mut String<I::Alloc>,
 ) -> Done
-    requires { (I.universe interner.now).knows_solvable requester ≡ true }
     ensures { OnOk result (IsAppended text.old text.new
-        (text_of_reason (I.universe interner.now) (I.texts interner.now) requester reason)) }
+        (text_of_reason (I.universe interner.now) (I.texts interner.now) reason)) }
 {
     match reason {
-        Reason::Needs(parent, conditional) => {
-            write_need(interner, requester, parent, conditional, text)
-        }
+        Reason::Needs(parent, conditional) => { write_need(interner, parent, conditional, text) }
         Reason::Lacks(parent, conditional) => {
-            write_need(interner, requester, parent, conditional, text)?;
+            write_need(interner, parent, conditional, text)?;
             Ok(text.push_str(", and there is none")?)
         }
         Reason::Limits(solvable, set) => {
@@ -76,16 +70,14 @@ fn write_reason<I: Interner>(
 /// Appends who needs what.
 fn write_need<I: Interner>(
     interner: &I,
-    requester: I::SolvableId,
     parent: Option<I::SolvableId>,
     conditional: ConditionalRequirement,
     text: &mut String<I::Alloc>,
 ) -> Done
-    requires { (I.universe interner.now).knows_solvable requester ≡ true }
     ensures { OnOk result (IsAppended text.old text.new
-        (text_of_need (I.universe interner.now) (I.texts interner.now) requester parent conditional)) }
+        (text_of_need (I.universe interner.now) (I.texts interner.now) parent conditional)) }
 {
-    write_parent(interner, requester, parent, text)?;
+    write_parent(interner, parent, text)?;
     text.push_str(" needs ")?;
     write_requirement(interner, conditional.requirement, text)?;
     write_condition(interner, conditional.condition, text)
@@ -94,17 +86,15 @@ fn write_need<I: Interner>(
 /// Appends who needs something.
 fn write_parent<I: Interner>(
     interner: &I,
-    requester: I::SolvableId,
     parent: Option<I::SolvableId>,
     text: &mut String<I::Alloc>,
 ) -> Done
-    requires { (I.universe interner.now).knows_solvable requester ≡ true }
     ensures { OnOk result (IsAppended text.old text.new
-        (text_of_parent (I.universe interner.now) (I.texts interner.now) requester parent)) }
+        (text_of_parent (I.universe interner.now) (I.texts interner.now) parent)) }
 {
     match parent {
         Some(solvable) => write_solvable(interner, solvable, text),
-        None => interner.display_name(interner.solvable_name(requester), text),
+        None => Ok(text.push_str("request")?),
     }
 }
 

@@ -1,85 +1,54 @@
-//! The text that answers what a solvable requires, for any provider.
+//! The text that answers what is requested, for any provider.
 ghost use Rattle.std.specs.Prelude.{◌≡◌, [], true, All, IfOk, OnOk, string_bytes};
 ghost use Rattle.resolvo_pool.specs.Texts.{IsAppended};
-ghost use Rattle.example_answers.specs.Answers.{IsAnswer, lines_of, requirements_of};
+ghost use Rattle.example_answers.specs.Answers.{IsAnswer, best_line, lines_of};
 
 use crate::outcome::Outcome;
 use crate::reasons::write_reasons;
 use picking::{Answer, pick};
 use resolvo_ids::StoreError;
-use resolvo_pool::{
-    ConditionalRequirement, Dependencies, DependencyProvider, Interner, ProviderFunctions,
-};
+use resolvo_pool::{ConditionalRequirement, DependencyProvider, Interner, ProviderFunctions};
 use std::alloc::Allocator;
 
-/// Searches for what a solvable requires, and writes the answer to a text that is empty so far.
+/// Searches for what is requested, and writes the answer to a text that is empty so far.
 pub(crate) fn write_answer<D: DependencyProvider>(
     alloc: D::Alloc,
     provider: &D,
-    requester: D::SolvableId,
+    requested: &[ConditionalRequirement],
     steps: u64,
     text: &mut String<D::Alloc>,
 ) -> Result<Outcome, StoreError>
     requires { string_bytes text.old ≡ [] }
     ensures { IfOk result (λ outcome. IsAnswer
-        (⟦<D as ProviderFunctions>⟧.functions provider.now) (D.texts provider.now) requester
+        (⟦<D as ProviderFunctions>⟧.functions provider.now) (D.texts provider.now) requested.now
         outcome (string_bytes text.new)) }
 {
-    if !provider.knows_solvable(requester) {
-        return Err(StoreError::UnknownId);
-    }
-    provider.display_name(provider.solvable_name(requester), text)?;
-    text.push_str(":\n")?;
-    let requested = requested(alloc, provider, requester)?;
-    match pick(alloc, provider, &requested, steps)? {
+    text.push_str("request:\n")?;
+    match pick(alloc, provider, requested, steps)? {
         Answer::Picked(choice) => {
             write_picked(provider, &choice.solvables, text)?;
+            write_best(alloc, choice.best_up_to, choice.ranks.len(), text)?;
             Ok(Outcome::Picked)
         }
         Answer::Unsolvable(reasons) => {
             text.push_str("none\n")?;
-            write_reasons(provider, requester, &reasons, text)?;
+            write_reasons(provider, &reasons, text)?;
             Ok(Outcome::NoSolution)
         }
         Answer::Uncertified(reasons) => {
             text.push_str("gave up: that there is no solution isn't shown\n")?;
-            write_reasons(provider, requester, &reasons, text)?;
+            write_reasons(provider, &reasons, text)?;
             Ok(Outcome::GaveUp)
         }
-        Answer::StepsUsed => end(text, "gave up: too many steps\n", Outcome::GaveUp),
-        Answer::NotASolution => end(
-            text,
-            "gave up: what was found is no solution\n",
-            Outcome::GaveUp,
-        ),
+        Answer::StepsUsed => {
+            text.push_str("gave up: too many steps\n")?;
+            Ok(Outcome::GaveUp)
+        }
+        Answer::NotASolution => {
+            text.push_str("gave up: what was found is no solution\n")?;
+            Ok(Outcome::GaveUp)
+        }
     }
-}
-
-/// What a solvable requires.
-fn requested<D: DependencyProvider>(
-    alloc: D::Alloc,
-    provider: &D,
-    solvable: D::SolvableId,
-) -> Result<Vec<ConditionalRequirement, D::Alloc>, StoreError>
-    requires { (D.universe provider.now).knows_solvable solvable ≡ true }
-    ensures { IfOk result (λ requested. requested.items ≡ requirements_of ((D.answers provider.now).needs solvable)) }
-{
-    match provider.get_dependencies(alloc, solvable)? {
-        Dependencies::Known(needs) => Ok(needs.requirements),
-        Dependencies::Unknown(_) => Ok(Vec::new(alloc)),
-    }
-}
-
-/// Appends how a search ended.
-fn end<A: Allocator>(
-    text: &mut String<A>,
-    words: &str,
-    outcome: Outcome,
-) -> Result<Outcome, StoreError>
-    ensures { IfOk result (λ answered. answered ≡ outcome) }
-{
-    text.push_str(words)?;
-    Ok(outcome)
 }
 
 /// Appends a line for each solvable.
@@ -94,6 +63,22 @@ fn write_picked<I: Interner>(
     for solvable in solvables {
         interner.display_solvable(*solvable, text)?;
         text.push_str("\n")?;
+    }
+    Ok(())
+}
+
+/// Appends by how many of the wishes what is picked is the best, unless it is by all.
+fn write_best<A: Allocator + Copy>(
+    alloc: A,
+    best_up_to: usize,
+    wishes: usize,
+    text: &mut String<A>,
+) -> Result<(), StoreError>
+    ensures { OnOk result (IsAppended text.old text.new (best_line best_up_to wishes)) }
+{
+    if best_up_to < wishes {
+        let line = format!(in alloc; "the best by the first {best_up_to} of {wishes} wishes\n")?;
+        text.push_str(&line)?;
     }
     Ok(())
 }

@@ -1,14 +1,13 @@
 -- What a small index answers.
 use Rattle.std.specs.Prelude.{◌≡◌, ℕ, ◌++◌, ◌==◌, Bool, true, ◌&&◌, All, nat_le, nat_lt, List, [], Option, None, Some}
 use Rattle.std.specs.Prelude.{length, slice_get, unwrap_or, option_map, filter, codes, decimal}
-use Rattle.std.specs.List.{sum_by}
 use Rattle.std.proofs.lemmas.List.Elements.{All-filter, filter_passes}
 use Rattle.resolvo_ids.specs.Types.StringId.{StringId}
 use Rattle.resolvo_ids.specs.Types.VersionSetId.{VersionSetId}
-use Rattle.resolvo_pool.specs.Dependencies.{Needs, Known}
+use Rattle.resolvo_pool.specs.Dependencies.{Needs, Known, needs_of}
 use Rattle.resolvo_pool.specs.Pool.{Lists}
 use Rattle.resolvo_pool.specs.PoolIds.{solvable_name_in}
-use Rattle.resolvo_pool.specs.Types.KnownDependencies.{KnownDependencies}
+use Rattle.resolvo_pool.specs.Types.Dependencies.{Dependencies}
 use Rattle.resolvo_pool.specs.Types.Solvable.{Solvable}
 use Rattle.example_index.specs.declared.packages.Package.{Package}
 use Rattle.example_index.specs.declared.range.VersionRange.{VersionRange}
@@ -61,12 +60,6 @@ abbrev pub excluded_of : Option Package → List (ℕ × StringId)
 excluded_of None = []
 excluded_of (Some p) = p.excluded.items
 
--- how many versions there are
-abbrev pub count_of : List Package → ℕ
-count_of packages = sum_by (λ (p : Package). length p.versions.items) packages
-
 -- what the solvable at this place of the list needs; nothing if there is none
-abbrev pub needs_at : {A : Type 0} → List (KnownDependencies A) → ℕ → Needs
-needs_at {A} list place =
-    unwrap_or (option_map (λ (known : KnownDependencies A). Known known.requirements.items known.constrains.items)
-    (slice_get list place)) (Known [] [])
+abbrev pub needs_at : {A : Type 0} → List (Dependencies A) → ℕ → Needs
+needs_at list place = unwrap_or (option_map needs_of (slice_get list place)) (Known [] [])

@@ -1,3 +1,6 @@
 pub mod Index
+pub mod Listed
+pub mod Mark
+pub mod Meaning
 pub mod Package
 pub mod Reading

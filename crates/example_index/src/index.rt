@@ -1,8 +1,8 @@
 //! The provider: what an index answers as an interner, in its first half, and as a provider, in its second.
-ghost use Rattle.std.specs.Prelude.{◌≡◌, ◌<◌, true, All, length, reverse, slice_get};
+ghost use Rattle.std.specs.Prelude.{◌≡◌, ◌<◌, true, [], All, length, reverse, slice_get};
 ghost use Rattle.std.specs.Prelude.{string_bytes, decimal, IfOk, IfErr, OnOk, OnErr};
 ghost use Rattle.resolvo_ids.specs.Types.StoreError.TheVariants.{OutOfMemory};
-ghost use Rattle.resolvo_pool.specs.Pool.{IsOfItself};
+ghost use Rattle.resolvo_pool.specs.Pool.{IsOfItself, nothing};
 ghost use Rattle.resolvo_pool.specs.PoolProps.{pool_props};
 ghost use Rattle.resolvo_pool.specs.Provider.{filtered};
 ghost use Rattle.resolvo_pool.specs.Texts.{IsAppended, IsSameText};
@@ -15,7 +15,8 @@ use resolvo_ids::{
     VersionSetUnionId,
 };
 use resolvo_pool::{
-    Candidates, Condition, Dependencies, DependencyProvider, Interner, KnownDependencies, Pool,
+    Candidates, Condition, ConditionalRequirement, Dependencies, DependencyProvider, Interner,
+    KnownDependencies, Pool,
 };
 use std::alloc::Global;
 
@@ -29,8 +30,35 @@ pub struct SmallIndex {
     /// Each package, at its name's place.
     pub(crate) packages: Vec<Package>,
     /// What each solvable needs, at its place.
-    pub(crate) needs: Vec<KnownDependencies>,
+    pub(crate) needs: Vec<Dependencies>,
+    /// What is requested.
+    pub(crate) request: Vec<ConditionalRequirement>,
     ghost of_itself: { IsOfItself pool } by { Prim.hlevel pool_props },
+}
+
+impl SmallIndex {
+    /// Nothing. Takes no memory.
+    pub(crate) fn new(alloc: Global) -> Self
+        ensures pool { result.pool ≡ nothing }
+        ensures packages { result.packages.items ≡ [] }
+        ensures needs { result.needs.items ≡ [] }
+        ensures request { result.request.items ≡ [] }
+    {
+        SmallIndex {
+            alloc,
+            pool: Pool::new(alloc),
+            packages: Vec::new(alloc),
+            needs: Vec::new(alloc),
+            request: Vec::new(alloc),
+        }
+    }
+
+    /// What is requested.
+    pub fn request(&self) -> &[ConditionalRequirement]
+        ensures { result.now ≡ self.now.request.items }
+    {
+        &self.request
+    }
 }
 
 /// The ids are the pool's, and so are the laws of them.
@@ -190,13 +218,24 @@ impl DependencyProvider for SmallIndex {
         alloc: Global,
         solvable: SolvableId,
     ) -> Result<Dependencies, StoreError> {
-        let mut found = KnownDependencies::new(alloc);
-        if let Some(known) = self.needs.get(solvable.to_index()) {
-            found.requirements.extend_from_slice(&known.requirements)?;
-            found.constrains.extend_from_slice(&known.constrains)?;
+        match self.needs.get(solvable.to_index()) {
+            Some(Dependencies::Unknown(reason)) => Ok(Dependencies::Unknown(*reason)),
+            Some(Dependencies::Known(known)) => Ok(Dependencies::Known(copy(alloc, known)?)),
+            None => Ok(Dependencies::Known(KnownDependencies::new(alloc))),
         }
-        Ok(Dependencies::Known(found))
     }
+}
+
+/// A copy.
+fn copy(alloc: Global, known: &KnownDependencies) -> Result<KnownDependencies, StoreError>
+    ensures requirements { IfOk result (λ copy. copy.requirements.items ≡ known.now.requirements.items) }
+    ensures constrains { IfOk result (λ copy. copy.constrains.items ≡ known.now.constrains.items) }
+    ensures err { IfErr result (λ e. e ≡ OutOfMemory) }
+{
+    let mut copy = KnownDependencies::new(alloc);
+    copy.requirements.extend_from_slice(&known.requirements)?;
+    copy.constrains.extend_from_slice(&known.constrains)?;
+    Ok(copy)
 }
 
 /// Those of the solvables that the pool has under this name.

@@ -1,28 +1,28 @@
 //! An example: the provider of a small ecosystem, whose index is a text with one line a version.
 //!
 //!     # a comment
+//!     request needs a 1..9
 //!     a 1 needs b 1..3
 //!     a 2 needs b 2..4 if c 1..2 needs d 1..9 | e 1..9
 //!     b 2 favored limits c 1..2
-//!     b 3 excluded "broken"
+//!     b 3 excluded does not build
 //!
-//! docs/INDEX.md has the format. A text may have several indexes, with lines without words between one and the next.
-//!
-//! [`split`] cuts a text into the lines of its indexes, and [`read`] makes a [`SmallIndex`] of these. `index` is the
-//! part to read: it has the two traits of a provider, and is proved to answer what `specs/Index` says of its value. Of
-//! the reader it is proved that an index has a version for each of its lines, and that an unreadable line is one of
-//! them; what it makes of a line's words is tested by `pick_versions`.
+//! docs/INDEX.md has the format, and `index_text` reads the lines. [`read`] makes a [`SmallIndex`] of the lines of one
+//! index: each version is a solvable, in the order of the lines. `index` is the part to read: it has the two traits of
+//! a provider, and is proved to answer what `specs/Index` says of its value. That its value is what the lines say is
+//! the contract of [`read`] (`specs/Listed`, `specs/Meaning`): each name, range, need, condition and mark is that of
+//! its line, and the first line that is no line of an index is named by its number.
 #![tactic(auto)]
 
 mod fault;
 mod index;
-mod line;
+mod interning;
 mod packages;
 mod range;
 mod reading;
+mod states;
 
 pub use fault::IndexFault;
 pub use index::SmallIndex;
-pub use line::{Line, split};
 pub use range::VersionRange;
 pub use reading::read;

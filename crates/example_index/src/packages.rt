@@ -1,34 +1,22 @@
 //! A package of an index, and what a line says of one of its versions.
 ghost use Rattle.std.specs.Prelude.{◌≡◌, [], ◌∷◌, ◌++◌, None, OnOk};
-ghost use Rattle.example_index.specs.Package.{marked, with_reason};
+ghost use Rattle.example_index.specs.Mark.{marked, with_reason};
 
 use resolvo_ids::{SolvableId, StoreError, StringId};
-use resolvo_pool::KnownDependencies;
+use resolvo_pool::Dependencies;
 use std::alloc::Global;
 
-/// What a line says of its version.
+/// What a line says of its version, by ids.
 #[derive(Drop)]
 pub(crate) struct Entries {
     /// What the version requires.
-    pub(crate) needs: KnownDependencies,
+    pub(crate) needs: Dependencies,
     /// Whether it is tried first.
     pub(crate) favored: bool,
     /// Whether it alone of its package may be picked.
     pub(crate) locked: bool,
     /// Why it may not be picked.
     pub(crate) excluded: Option<StringId>,
-}
-
-impl Entries {
-    /// Nothing. Takes no memory.
-    pub(crate) fn new(alloc: Global) -> Self {
-        Entries {
-            needs: KnownDependencies::new(alloc),
-            favored: false,
-            locked: false,
-            excluded: None,
-        }
-    }
 }
 
 /// The versions of a package.

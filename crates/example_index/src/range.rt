@@ -13,15 +13,6 @@ pub struct VersionRange {
 }
 
 impl VersionRange {
-    /// The range of a word such as `1..3`.
-    pub(crate) fn read(word: &str) -> Option<VersionRange> {
-        let (low, high) = word.split_once("..")?;
-        Some(VersionRange {
-            low: low.parse().ok()?,
-            high: high.parse().ok()?,
-        })
-    }
-
     /// Whether the version is in the range.
     pub fn holds(&self, version: u32) -> bool
         ensures { result ≡ is_within self.now version }

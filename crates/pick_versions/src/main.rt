@@ -1,12 +1,10 @@
 //! An example: a program that picks versions, by the search of `picking`.
 //!
 //! It reads indexes from standard input, or from the files that its command line names (`options`), in the format of
-//! `example_index`. For each it prints the requester, the name of its first line, and a solution of what that line
-//! requires: a line for each version that is picked; or `none` if there is no solution, and below it why, a line for
-//! each thing that is needed or limited there. A file that can't be read is named on standard error.
-//! If it gives up, or a line is unreadable, it says so, and goes on with the next index. The first line's own version
-//! is picked only if another one needs it, and what it limits counts only then. The exit status is that of the worst
-//! index: [`Outcome`] has the numbers.
+//! `index_text`. For each it prints `request:`, and a solution of what is requested: a line for each version that is
+//! picked; or `none` if there is no solution, and below it why, a line for each thing that is needed or limited there.
+//! If it gives up, or a line is unreadable, it says so, and goes on with the next index. A file that can't be read is
+//! named on standard error. The exit status is that of the worst index: [`Outcome`] has the numbers.
 #![tactic(auto)]
 
 mod options;
@@ -104,7 +102,7 @@ fn answer_input(
     is_first: &mut bool,
 ) -> Result<Outcome> {
     let mut worst = Outcome::Picked;
-    for lines in &example_index::split(alloc, input)? {
+    for lines in &index_text::split(alloc, input)? {
         if !*is_first {
             println!(rt)?;
         }

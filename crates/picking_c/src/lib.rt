@@ -1,12 +1,12 @@
 //! Picking versions, for programs in C, or in any language that calls C: an example.
 //!
-//! [`nivolakku_pick`] takes an index as a text, in the format of `example_index`, and answers as the program
+//! [`nivolakku_pick`] takes an index as a text, in the format of `index_text`, and answers as the program
 //! `pick_versions` does, into a buffer of the caller's. `picking.h` declares it and says how it is called; no proof
 //! covers that declaration, nor what the caller owes.
 #![tactic(auto)]
 
 ghost use Rattle.std.specs.Prelude.{◌≡◌, ◌≤◌, ◌↔◌, true, false, length, IsTrue};
-ghost use Rattle.example_answers.specs.Answers.{IsAnswerOf};
+ghost use Rattle.example_answers.specs.Answers.{AnswersText};
 ghost use Rattle.picking_c.specs.Calls.{IsAnswered, written};
 
 use example_answers::{Outcome, answer_text};
@@ -24,7 +24,7 @@ pub extern "C" fn nivolakku_pick(
     needed: &mut usize,
 ) -> u32
     ensures { IsAnswered
-        (IsAnswerOf ⟦<SmallIndex as ProviderFunctions>⟧.functions ⟦<SmallIndex as Interner>⟧.texts 0)
+        (AnswersText ⟦<SmallIndex as ProviderFunctions>⟧.functions ⟦<SmallIndex as Interner>⟧.texts index.now)
         answer.old answer.new needed.new result }
 {
     let Ok(answered) = answer_text(alloc, index, steps) else {
@@ -57,7 +57,7 @@ fn write(text: &[u8], buffer: &mut [u8]) -> bool
 mod tests {
     use super::nivolakku_pick;
 
-    const INDEX: &str = "request 1 needs a 1..9\na 1\na 2 needs b 1..2\n";
+    const INDEX: &str = "request needs a 1..9\na 1\na 2 needs b 1..2\n";
 
     #[test]
     fn a_call_answers_as_its_room_allows(rt: HostRuntime) {

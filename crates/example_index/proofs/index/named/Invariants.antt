@@ -4,4 +4,5 @@ use Rattle.example_index.proofs.index.named.Given as goal
 
 abbrev pub invariant-loop-solvable : goal.invariant-loop-solvable
 invariant-loop-solvable l =
-    l.found.items ++ of_name l.pool l.name (here l.pool (drop l.solvable-index l.solvables)) ≡ of_name l.pool l.name (here l.pool l.solvables)
+    l.found.items ++ of_name l.pool l.name (here l.pool (drop l.solvable-index l.solvables)) ≡ of_name l.pool l.name
+    (here l.pool l.solvables)

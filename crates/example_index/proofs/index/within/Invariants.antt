@@ -11,4 +11,5 @@ holds range pool s = is_within range (version_in pool s)
 
 abbrev pub invariant-loop-solvable : goal.invariant-loop-solvable
 invariant-loop-solvable l =
-    l.found.items ++ filtered (holds l.range l.pool) l.inverse (drop l.solvable-index l.solvables) ≡ filtered (holds l.range l.pool) l.inverse l.solvables
+    l.found.items ++ filtered (holds l.range l.pool) l.inverse (drop l.solvable-index l.solvables) ≡ filtered
+    (holds l.range l.pool) l.inverse l.solvables

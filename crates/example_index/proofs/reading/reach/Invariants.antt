@@ -1,9 +1,10 @@
-use Rattle.std.proofs.Common.{◌≡◌, ◌≤◌, length}
-use Rattle.example_index.specs.Index.{count_of}
+use Rattle.std.proofs.Common.{◌≤◌, ℕ, length}
+use Rattle.std.specs.Prelude.{slice_get}
+use Rattle.example_index.specs.Package.{IsSame}
 use Rattle.example_index.proofs.reading.reach.Given as goal
 
 abbrev pub invariant-loop : goal.invariant-loop
 invariant-loop l = record {
-  count : count_of l.packages.items ≡ count_of l.fn.packages.items;
+  same : (m : ℕ) → IsSame (slice_get l.fn.packages.items m) (slice_get l.packages.items m);
   longer : l.counter ≤ length l.packages.items;
 }

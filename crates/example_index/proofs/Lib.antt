@@ -1,0 +1,9 @@
+pub mod Conditions
+pub mod EntryLemmas
+pub mod Fresh
+pub mod Interned
+pub mod Kept
+pub mod Later
+pub mod LineLemmas
+pub mod Places
+pub mod UnionLemmas

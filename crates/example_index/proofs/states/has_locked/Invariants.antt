@@ -1,0 +1,8 @@
+use Rattle.std.proofs.Common.{◌≡◌, drop, map}
+use Rattle.index_text.specs.Plain.{plain_entry}
+use Rattle.example_index.specs.Listed.{has_locked}
+use Rattle.example_index.proofs.states.has_locked.Given as goal
+
+abbrev pub invariant-loop-entry : goal.invariant-loop-entry
+invariant-loop-entry l = has_locked (map plain_entry (drop l.entry-index l.entries)) ≡ has_locked
+    (map plain_entry l.entries)
