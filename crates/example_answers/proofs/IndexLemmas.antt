@@ -1,6 +1,6 @@
 -- What answers an index.
 use Rattle.std.proofs.Common.{ℕ, List, Result, Ok, Err, refl, inr}
-use Rattle.index_text.specs.Indexes.{IndexText}
+use Rattle.index_text.specs.Index.{IndexText}
 use Rattle.resolvo_pool.specs.Functions.{Provider}
 use Rattle.resolvo_pool.specs.Texts.{Texts}
 use Rattle.example_index.specs.Listed.{AreRead, IsIndex}

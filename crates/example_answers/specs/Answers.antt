@@ -1,7 +1,8 @@
 -- What an index is answered. N are the names, S the solvables.
 use Rattle.std.specs.Prelude.{◌≡◌, ◌⊎◌, ℕ, All, List, [], ◌∷◌, ◌++◌, Result, Ok, Err, codes, decimal, length, nat_lt}
 use Rattle.std.specs.Prelude.{if◌then◌else◌, take}
-use Rattle.index_text.specs.Indexes.{IndexText, NumberedWords, index_of, indexes_of}
+use Rattle.index_text.specs.Index.{IndexText, index_of}
+use Rattle.index_text.specs.Indexes.{NumberedWords, indexes_of}
 use Rattle.resolvo_ids.specs.Types.StoreError.{StoreError}
 use Rattle.resolvo_pool.specs.Functions.{Provider}
 use Rattle.resolvo_pool.specs.Texts.{Texts}

@@ -1,6 +1,6 @@
 -- Why there is no answer, and what is said of it.
 use Rattle.std.specs.Prelude.{◌≡◌, ℕ, List, Result, Err, ⊤}
-use Rattle.index_text.specs.Indexes.{IndexText}
+use Rattle.index_text.specs.Index.{IndexText}
 use Rattle.example_index.specs.declared.fault.IndexFault.{IndexFault}
 use Rattle.example_index.specs.declared.fault.IndexFault.TheVariants.{Unreadable, Refused}
 use Rattle.example_answers.specs.Answers.{refused_text, unreadable_text}

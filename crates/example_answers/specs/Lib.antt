@@ -1,5 +1,6 @@
 pub mod Answers
 pub mod Faults
+pub mod Printed
 pub mod Reasons
 pub mod Refusals
 pub mod Status

@@ -1,6 +1,6 @@
 //! An index and its answer.
 ghost use Rattle.std.specs.Prelude.{◌≡◌, [], IfErr, IfOk, map, string_bytes};
-ghost use Rattle.index_text.specs.Indexes.{index_of};
+ghost use Rattle.index_text.specs.Index.{index_of};
 ghost use Rattle.index_text.specs.PlainLines.{plain_line, plain_lines};
 ghost use Rattle.example_answers.specs.Answers.{AnswersLines, AnswersText, IsAnswerOf};
 ghost use Rattle.example_answers.specs.Answers.{first_number, index_of_one, refused_text};
@@ -20,6 +20,10 @@ use std::alloc::{AllocError, Global};
 pub struct AnswerText {
     pub outcome: Outcome,
     pub text: String,
+    /// The number of the line that can't be read, if that is why there is no answer.
+    pub unreadable: Option<u64>,
+    /// What is noteworthy of an index that was read, a line each: version sets that no version is in.
+    pub notes: String,
 }
 
 /// Answers the index of a text, in no more steps than these. A text without an index is unreadable at its first line,
@@ -34,6 +38,8 @@ pub fn answer_text(alloc: Global, text: &[u8], steps: u64) -> Result<AnswerText,
         Err(_) => Ok(AnswerText {
             outcome: Outcome::GaveUp,
             text: refused_text(alloc, StoreError::OutOfMemory)?,
+            unreadable: None,
+            notes: String::new(alloc),
         }),
     }
 }
@@ -73,8 +79,14 @@ pub fn answer(alloc: Global, lines: &[Line<'_>], steps: u64) -> Result<AnswerTex
         answered.outcome (string_bytes answered.text)) }
 {
     let mut text = String::new(alloc);
-    match write_index_answer(alloc, lines, steps, &mut text) {
-        Ok(outcome) => Ok(AnswerText { outcome, text }),
+    let mut notes = String::new(alloc);
+    match write_index_answer(alloc, lines, steps, &mut text, &mut notes) {
+        Ok(outcome) => Ok(AnswerText {
+            outcome,
+            text,
+            unreadable: None,
+            notes,
+        }),
         Err(fault) => answer_fault(alloc, fault),
     }
 }
@@ -87,10 +99,14 @@ fn answer_fault(alloc: Global, fault: IndexFault) -> Result<AnswerText, AllocErr
         IndexFault::Unreadable(number) => Ok(AnswerText {
             outcome: Outcome::Unreadable,
             text: format!(in alloc; "line {number} unreadable\n")?,
+            unreadable: Some(number),
+            notes: String::new(alloc),
         }),
         IndexFault::Refused(refused) => Ok(AnswerText {
             outcome: Outcome::GaveUp,
             text: refused_text(alloc, refused)?,
+            unreadable: None,
+            notes: String::new(alloc),
         }),
     }
 }
@@ -103,12 +119,14 @@ fn refused_text(alloc: Global, refused: StoreError) -> Result<String, AllocError
     format!(in alloc; "gave up: {words}\n")
 }
 
-/// Reads an index, and writes the answer to its request to a text that is empty so far.
+/// Reads an index, and writes the answer to its request to a text that is empty so far, and what is noteworthy of it to
+/// another one.
 fn write_index_answer(
     alloc: Global,
     lines: &[Line<'_>],
     steps: u64,
     text: &mut String,
+    notes: &mut String,
 ) -> Result<Outcome, IndexFault>
     requires { string_bytes text.old ≡ [] }
     ensures ok { IfOk result (λ outcome. AnswersLines
@@ -118,6 +136,14 @@ fn write_index_answer(
 {
     let index = example_index::read(alloc, lines)?;
     let outcome = write_answer(alloc, &index, index.request(), steps, text);
+    write_notes(alloc, &index, notes);
     drop(index);
     Ok(outcome?)
+}
+
+/// Writes what is noteworthy of an index, as far as there is memory.
+fn write_notes(alloc: Global, index: &SmallIndex, notes: &mut String) {
+    if let Ok(sets) = index.empty_sets(alloc) {
+        let _ = index.write_notes(alloc, &sets, notes);
+    }
 }

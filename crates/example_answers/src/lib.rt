@@ -8,13 +8,24 @@
 //! All of that is proved of the text of the answer, for the text of the index: what is picked is the best solution of
 //! what the index's lines say, after `none` there is no solution, and a line that is called unreadable is
 //! (`specs/Answers`; `specs/Reasons` has a reason's line). That the reasons are those is not proved.
+//!
+//! [`answer_all`] prints the answers of all indexes of an input, in turn (`specs/Printed`).
 #![tactic(auto)]
 
+mod answering;
+mod in_turn;
 mod index_answer;
+mod input_answers;
 mod outcome;
+mod print_fault;
 mod reasons;
 mod refusal;
 mod writing;
+mod writing_bytes;
 
+pub use answering::Answering;
+pub use in_turn::print_in_turn;
 pub use index_answer::{AnswerText, answer, answer_text};
+pub use input_answers::answer_all;
 pub use outcome::Outcome;
+pub use print_fault::PrintFault;

@@ -8,7 +8,7 @@ use Rattle.std.proofs.lemmas.Bool.{lt-ltb}
 use Rattle.std.proofs.lemmas.Bool.Decides.{nat_tests}
 use Rattle.std.proofs.lemmas.Option.{slice_get_within}
 use Rattle.std.proofs.lemmas.Slice.Eq.{bytes_eq-Decides}
-use Rattle.index_text.specs.Indexes.{is_same_version, with_version}
+use Rattle.index_text.specs.Index.{is_same_version, with_version}
 use Rattle.index_text.specs.Lines.{VersionText}
 use Rattle.resolvo_pool.specs.Dependencies.{Needs}
 use Rattle.resolvo_pool.specs.Pool.{Lists}

@@ -1,11 +1,13 @@
 -- What comes into a pool stands at its id.
-use Rattle.std.proofs.Common.{◌≡◌, ◌∙◌, ℕ, suc, ◌+◌, Bool, true, false, not, ◌||◌, List, [], ◌∷◌, ◌++◌, map, Some}
+use Rattle.std.proofs.Common.{◌≡◌, ◌∙◌, ℕ, suc, ◌+◌, Bool, true, false, not, ◌||◌, List, [], ◌∷◌, ◌++◌, map, Some, None, length}
 use Rattle.std.proofs.Common.{cond, arith, refl, ap, sym, add_comm, add-one}
-use Rattle.std.specs.Prelude.{option_map, if◌then◌else◌, slice_get, ◌==◌, ◌&&◌, Result, Ok, Err, IfOk, OnOk}
+use Rattle.std.specs.Prelude.{nat_lt, option_map, if◌then◌else◌, slice_get, ◌==◌, ◌&&◌, Result, Ok, Err, IfOk, OnOk}
+use Rattle.std.specs.List.{position, position_or_len}
 use Rattle.std.specs.Str.{bytes_eq}
 use Rattle.std.specs.String.{string_bytes, string_eq}
 use Rattle.std.specs.declared.string.String.{String}
 use Rattle.std.proofs.lemmas.Slice.Eq.{bytes_eq-Decides}
+use Rattle.std.proofs.lemmas.Bool.{lt-ltb}
 use Rattle.std.proofs.lemmas.Bool.Decides.{nat_tests}
 use Rattle.resolvo_pool.specs.Interned.{has_same, interned, interned_place}
 use Rattle.resolvo_pool.specs.Pool.{same_set, same_condition, same_operator}
@@ -137,3 +139,25 @@ pub said_at : {E : Type 0} (r : Result ℕ E) (old new : List Condition) (c : Co
 said_at (Ok id) old new c at is = ap (λ l. slice_get l id) is ∙ ap (slice_get (interned same_condition old c)) at ∙
     condition_at old c
 said_at (Err e) old new c at is = at
+
+-- the place of a name in a list with one more in front
+place_after : (found : Bool) (n : ℕ) → cond found (Some (1 + n)) None ≡ option_map suc (cond found (Some n) None)
+place_after true n = ap Some (omega arith)
+place_after false n = refl
+
+placed : (same : Bool) (n count : ℕ)
+    → cond (nat_lt (cond (not same) (1 + n) 0) (suc count)) (Some (cond (not same) (1 + n) 0)) None
+    ≡ (if same then Some 0 else option_map suc (cond (nat_lt n count) (Some n) None))
+placed true n count = ap (λ found. cond found (Some 0) None) (lt-ltb 0 (suc count) (omega arith))
+placed false n count =
+    let shifted : nat_lt (1 + n) (suc count) ≡ nat_lt n count = grind (arith, nat_tests) in
+    ap (λ found. cond found (Some (1 + n)) None) shifted ∙ place_after (nat_lt n count) n
+
+-- what a text finds among names is the first place of its bytes
+pub found_at : {A : Type 0} (text : List ℕ) (names : List (String A))
+    → position (λ name. bytes_eq text (string_bytes name)) names ≡ first_place text (map string_bytes names)
+found_at text [] = refl
+found_at text (name ∷ names) =
+    placed (bytes_eq text (string_bytes name)) (position_or_len (λ n. bytes_eq text (string_bytes n)) names)
+    (length names)
+    ∙ ap (λ place. if bytes_eq text (string_bytes name) then Some 0 else option_map suc place) (found_at text names)

@@ -5,5 +5,6 @@ pub mod Interned
 pub mod Kept
 pub mod Later
 pub mod LineLemmas
+pub mod NoteLemmas
 pub mod Places
 pub mod UnionLemmas

@@ -1,6 +1,6 @@
 //! The provider: what an index answers as an interner, in its first half, and as a provider, in its second.
 ghost use Rattle.std.specs.Prelude.{◌≡◌, ◌<◌, true, [], All, length, reverse, slice_get};
-ghost use Rattle.std.specs.Prelude.{string_bytes, decimal, IfOk, IfErr, OnOk, OnErr};
+ghost use Rattle.std.specs.Prelude.{string_bytes, IfOk, IfErr, OnOk, OnErr};
 ghost use Rattle.resolvo_ids.specs.Types.StoreError.TheVariants.{OutOfMemory};
 ghost use Rattle.resolvo_pool.specs.Pool.{IsOfItself, nothing};
 ghost use Rattle.resolvo_pool.specs.PoolProps.{pool_props};
@@ -10,6 +10,7 @@ ghost use Rattle.example_index.specs.Index.{here, of_name, is_within, version_in
 
 use crate::packages::Package;
 use crate::range::VersionRange;
+use index_text::Order;
 use resolvo_ids::{
     ConditionId, DenseIndex, NameId, SolvableId, StoreError, StringId, VersionSetId,
     VersionSetUnionId,
@@ -25,6 +26,8 @@ use std::alloc::Global;
 pub struct SmallIndex {
     /// What the text's words are copied with.
     pub(crate) alloc: Global,
+    /// How versions are written. The pool has a number for each.
+    pub(crate) order: Order,
     /// Names, versions, ranges, conditions and the reasons of exclusions, each by its id.
     pub(crate) pool: Pool<VersionRange>,
     /// Each package, at its name's place.
@@ -46,6 +49,7 @@ impl SmallIndex {
     {
         SmallIndex {
             alloc,
+            order: Order::Numbers,
             pool: Pool::new(alloc),
             packages: Vec::new(alloc),
             needs: Vec::new(alloc),
@@ -65,6 +69,8 @@ impl SmallIndex {
 impl Interner for SmallIndex {
     ghost use Rattle.resolvo_pool.specs.PoolIds.{universe_in, texts_in};
     ghost use Rattle.resolvo_pool.specs.PoolLaws.{pool_solvable_names, pool_set_names, pool_union_sets, pool_operands};
+    ghost use Rattle.index_text.specs.Orders.{version_text};
+    ghost use Rattle.index_text.specs.PlainOrders.{plain_order};
     ghost use Rattle.example_index.specs.Index.{range_text};
 
     type Alloc = Global;
@@ -75,7 +81,8 @@ impl Interner for SmallIndex {
 
     ghost universe = { λ index. universe_in index.pool };
 
-    ghost texts = { λ index. texts_in index.pool string_bytes range_text decimal };
+    ghost texts = { λ index. texts_in index.pool string_bytes
+        (range_text (plain_order index.order)) (version_text (plain_order index.order)) };
 
     ghost solvable_names_known = { λ index. pool_solvable_names index.pool index.of_itself };
 
@@ -127,9 +134,11 @@ impl Interner for SmallIndex {
 
     fn display_solvable(&self, solvable: SolvableId, out: &mut String) -> Result<(), StoreError> {
         let solvable = self.pool.resolve_solvable(solvable);
-        let name = self.pool.resolve_package_name(solvable.name);
-        let version = solvable.payload;
-        append(out, &format!(in *out.allocator(); "{name} {version}")?)
+        let mut text = String::new(*out.allocator());
+        text.push_str(self.pool.resolve_package_name(solvable.name))?;
+        text.push(' ')?;
+        self.order.write(solvable.payload, &mut text)?;
+        append(out, &text)
     }
 
     fn display_name(&self, name: NameId, out: &mut String) -> Result<(), StoreError> {
@@ -137,8 +146,12 @@ impl Interner for SmallIndex {
     }
 
     fn display_version_set(&self, set: VersionSetId, out: &mut String) -> Result<(), StoreError> {
-        let range = self.pool.resolve_version_set(set);
-        append(out, &range.to_string(*out.allocator())?)
+        let range = *self.pool.resolve_version_set(set);
+        let mut text = String::new(*out.allocator());
+        self.order.write(range.low, &mut text)?;
+        text.push_str("..")?;
+        self.order.write(range.high, &mut text)?;
+        append(out, &text)
     }
 
     fn display_string(&self, string: StringId, out: &mut String) -> Result<(), StoreError> {

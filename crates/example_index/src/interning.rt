@@ -22,6 +22,18 @@ pub(crate) fn intern_name(alloc: Global, pool: &mut Ids, name: &str) -> Result<N
     ensures later { IsLater pool.old pool.new }
     ensures solvables { pool.new.solvables ≡ pool.old.solvables }
 {
+    match pool.find_package_name(name) {
+        Some(id) => Ok(id),
+        None => intern_new_name(alloc, pool, name),
+    }
+}
+
+/// The name of a package that wasn't named so far.
+fn intern_new_name(alloc: Global, pool: &mut Ids, name: &str) -> Result<NameId, StoreError>
+    ensures is { IfOk result (λ id. IsNamed (with_bytes pool.new) id name.now) }
+    ensures later { IsLater pool.old pool.new }
+    ensures solvables { pool.new.solvables ≡ pool.old.solvables }
+{
     let name = String::from_str(alloc, name)?;
     match pool.intern_package_name(name) {
         Ok(id) => Ok(id),

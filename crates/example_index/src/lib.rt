@@ -17,6 +17,7 @@
 mod fault;
 mod index;
 mod interning;
+mod notes;
 mod packages;
 mod range;
 mod reading;

@@ -1,11 +1,10 @@
 //! Ranges of versions.
-ghost use Rattle.std.specs.Prelude.{◌≡◌, Some};
-ghost use Rattle.example_index.specs.Index.{range_text, is_within};
+ghost use Rattle.std.specs.Prelude.{◌≡◌};
+ghost use Rattle.example_index.specs.Index.{is_within};
 
 use resolvo_pool::VersionSet;
-use std::fmt;
 
-/// The versions from `low` to below `high`.
+/// The versions from `low` to below `high`, each by its number.
 #[derive(Clone, Copy, Debug, PartialEq, Eq, Hash)]
 pub struct VersionRange {
     pub low: u32,
@@ -21,18 +20,7 @@ impl VersionRange {
     }
 }
 
-/// A version is a number.
+/// A number stands for a version.
 impl VersionSet for VersionRange {
     type V = u32;
-}
-
-/// As `1..3`.
-impl fmt::Display for VersionRange {
-    ghost output = { λ range. Some (range_text range) };
-
-    fn fmt<W: fmt::Write>(&self, f: &mut fmt::Formatter<W>) -> fmt::Result {
-        let low = self.low;
-        let high = self.high;
-        write!(f, "{low}..{high}")
-    }
 }

@@ -2,13 +2,14 @@
 ghost use Rattle.std.specs.Prelude.{◌≡◌, ◌<◌, ◌^◌, ◌++◌, ◌∷◌, ◌&&◌, ◌==◌, [], false, nat_lt, ℕ, List, IfOk, OnOk};
 ghost use Rattle.std.specs.Prelude.{length, map, option_and_then, slice_get};
 ghost use Rattle.std.specs.List.{list_any};
-ghost use Rattle.index_text.specs.Indexes.{index_of, versions_of, with_version};
+ghost use Rattle.index_text.specs.Index.{index_of, index_in_order, versions_of, with_version};
 ghost use Rattle.index_text.specs.Lines.{VersionText, request_said, version_said};
 ghost use Rattle.index_text.specs.Plain.{plain_version};
 ghost use Rattle.index_text.specs.PlainLines.{plain_line};
+ghost use Rattle.index_text.specs.PlainOrders.{plain_order};
 ghost use Rattle.resolvo_pool.specs.Pool.{IsLater};
 ghost use Rattle.example_index.specs.Index.{version_in};
-ghost use Rattle.example_index.specs.Listed.{AreRead, IsIndex, IsOf, with_bytes};
+ghost use Rattle.example_index.specs.Listed.{AreRead, IsIndex, IsRead, IsOf, with_bytes};
 ghost use Rattle.example_index.specs.Reading.{IsAdded, IsLineAdded, IsRequestAdded};
 ghost use Rattle.example_index.specs.Meaning.{IsNamed};
 ghost use Rattle.example_index.specs.Package.{IsSame, IsWith};
@@ -18,7 +19,7 @@ use crate::index::SmallIndex;
 use crate::interning::{Ids, intern_name};
 use crate::packages::{Entries, Package};
 use crate::states::{intern_entries, intern_state};
-use index_text::{Line, Version, read_request, read_version};
+use index_text::{Line, Reader, Version};
 use resolvo_ids::{DenseIndex, NameId, SolvableId, StoreError};
 use std::alloc::Global;
 
@@ -26,9 +27,13 @@ use std::alloc::Global;
 pub fn read(alloc: Global, lines: &[Line<'_>]) -> Result<SmallIndex, IndexFault>
     ensures { AreRead (λ said index. IsIndex index said) (index_of (map plain_line lines.now)) result }
 {
+    let mut reader = Reader::new(alloc, lines)?;
     let mut index = SmallIndex::new(alloc);
-    match index.add_lines(lines) {
-        Ok(()) => Ok(index),
+    match index.add_lines(&mut reader, lines) {
+        Ok(()) => {
+            index.order = reader.into_order();
+            Ok(index)
+        }
         Err(fault) => {
             drop(index);
             Err(fault)
@@ -38,24 +43,36 @@ pub fn read(alloc: Global, lines: &[Line<'_>]) -> Result<SmallIndex, IndexFault>
 
 impl SmallIndex {
     /// Adds the lines of a whole index, where there is nothing yet.
-    fn add_lines(&mut self, lines: &[Line<'_>]) -> Result<(), IndexFault>
-        ensures { IsOf self.old [] →
-            AreRead (λ said done. IsIndex self.new said) (index_of (map plain_line lines.now)) result }
+    fn add_lines<'t>(
+        &mut self,
+        reader: &mut Reader<'t>,
+        lines: &[Line<'t>],
+    ) -> Result<(), IndexFault>
+        ensures are { IsOf self.old [] →
+            AreRead (λ said done. IsRead (plain_order reader.old.order) self.new said)
+            (index_in_order (plain_order reader.old.order) (map plain_line lines.now)) result }
+        ensures order { reader.new.order ≡ reader.old.order }
     {
         let [first, others @ ..] = lines else {
             return Err(IndexFault::Unreadable(1));
         };
-        self.add_request(first)?;
-        self.add_versions(others)
+        self.add_request(reader, first)?;
+        self.add_versions(reader, others)
     }
 
     /// Adds the request of a line.
-    fn add_request(&mut self, line: &Line<'_>) -> Result<(), IndexFault>
-        ensures is { IsRequestAdded self.new (option_and_then request_said (plain_line line.now).words)
+    fn add_request<'t>(
+        &mut self,
+        reader: &mut Reader<'t>,
+        line: &Line<'t>,
+    ) -> Result<(), IndexFault>
+        ensures is { IsRequestAdded self.new
+            (option_and_then (request_said (plain_order reader.old.order)) (plain_line line.now).words)
             line.now.number result }
         ensures kept { (versions : List VersionText) → IsOf self.old versions → IsOf self.new versions }
+        ensures order { reader.new.order ≡ reader.old.order }
     {
-        let Some(request) = read_request(self.alloc, line)? else {
+        let Some(request) = reader.request(line)? else {
             return Err(IndexFault::Unreadable(line.number));
         };
         let needs = intern_entries(self.alloc, &mut self.pool, &request);
@@ -65,27 +82,35 @@ impl SmallIndex {
     }
 
     /// Adds the versions of lines.
-    fn add_versions(&mut self, lines: &[Line<'_>]) -> Result<(), IndexFault>
+    fn add_versions<'t>(
+        &mut self,
+        reader: &mut Reader<'t>,
+        lines: &[Line<'t>],
+    ) -> Result<(), IndexFault>
         ensures are { (versions : List VersionText) → IsOf self.old versions →
-            AreRead (λ more done. IsOf self.new more) (versions_of versions (map plain_line lines.now)) result }
+            AreRead (λ more done. IsOf self.new more)
+            (versions_of (plain_order reader.old.order) versions (map plain_line lines.now)) result }
         ensures later { IsLater self.old.pool self.new.pool }
         ensures request { self.new.request ≡ self.old.request }
+        ensures order { reader.new.order ≡ reader.old.order }
     {
         for line in lines {
-            self.add_line(line)?;
+            self.add_line(reader, line)?;
         }
         Ok(())
     }
 
     /// Adds the version of a line.
-    fn add_line(&mut self, line: &Line<'_>) -> Result<(), IndexFault>
+    fn add_line<'t>(&mut self, reader: &mut Reader<'t>, line: &Line<'t>) -> Result<(), IndexFault>
         ensures is { (versions : List VersionText) → IsOf self.old versions → IsLineAdded (IsOf self.new)
-            (option_and_then (with_version versions) (option_and_then version_said (plain_line line.now).words))
+            (option_and_then (with_version versions)
+            (option_and_then (version_said (plain_order reader.old.order)) (plain_line line.now).words))
             line.now.number result }
         ensures later { IsLater self.old.pool self.new.pool }
         ensures request { self.new.request ≡ self.old.request }
+        ensures order { reader.new.order ≡ reader.old.order }
     {
-        let Some(version) = read_version(self.alloc, line)? else {
+        let Some(version) = reader.version(line)? else {
             return Err(IndexFault::Unreadable(line.number));
         };
         if self.add_version(&version)? {

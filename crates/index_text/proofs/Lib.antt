@@ -1,4 +1,11 @@
 pub mod Cuts
 pub mod EachLemmas
+pub mod EndLemmas
 pub mod LineLemmas
+pub mod OrderLaws
+pub mod OrderLemmas
 pub mod PartLemmas
+pub mod Printed
+pub mod SemverTexts
+pub mod Skipped
+pub mod WordLemmas

@@ -4,11 +4,12 @@ use Rattle.std.proofs.Common.{None, Some, arith, refl, ap, sym}
 use Rattle.std.specs.Borrow.{Bor}
 use Rattle.std.specs.List.{slice_split}
 use Rattle.std.specs.Str.{bytes_eq}
-use Rattle.std.specs.Prelude.{◌≢◌, slice_index_or, is_some, option_map, codes}
+use Rattle.std.specs.Prelude.{slice_index_or, is_some, codes}
 use Rattle.std.proofs.lemmas.List.{take_more, take_all, drop_all, at_drop_more, map-append}
 use Rattle.std.proofs.lemmas.List.Splits.{length-slice_split}
 use Rattle.index_text.specs.Entries.{is_entry, cut, put_front, condition_in_parts}
-use Rattle.index_text.specs.Sets.{texts, set_of, set_within, range_of, parts_behind}
+use Rattle.index_text.specs.Orders.{Order}
+use Rattle.index_text.specs.Sets.{texts, parts_behind}
 use Rattle.index_text.proofs.Cuts.{onto_front, onto_front-more, onto_front-ends, onto_front-last, put_front-more}
 use Rattle.index_text.proofs.Cuts.{put_front-starts}
 
@@ -65,21 +66,6 @@ module _ (words : List Word) (i : ℕ) (d : Word) (here : i < length words) wher
       ∙ put_front-starts is_entry (texts (take i words)) word (cut is_entry (texts (drop (i + 1) words))) h
       ∙ sym (at_drop_more (λ rest. texts (take i words) ∷ cut is_entry (texts rest)) words i d here)
 
--- what isn't two words is no set
-pub no_set : (words : List (Bor (List ℕ))) → length words ≢ 2 → set_of (texts words) ≡ None
-no_set [] h = refl
-no_set (a ∷ []) h = refl
-no_set (a ∷ b ∷ []) h = absurd (h refl)
-no_set (a ∷ b ∷ c ∷ words) h = refl
-
-pub set_of_two : (words : List (Bor (List ℕ))) (d e : Bor (List ℕ)) → length words ≡ 2
-    → set_of (texts words) ≡ option_map (set_within (slice_index_or words 0 d).now)
-    (range_of (slice_index_or words 1 e).now)
-set_of_two [] d e h = absurd (omega (arith, h))
-set_of_two (a ∷ []) d e h = absurd (omega (arith, h))
-set_of_two (a ∷ b ∷ []) d e h = refl
-set_of_two (a ∷ b ∷ c ∷ words) d e h = absurd (omega (arith, h))
-
 -- where no word separates, all words are one part
 pub all_before : (between : List ℕ) (words : List Word) (i : ℕ) → i ≡ length words
     → slice_split (bytes_eq between) (texts words) ≡ onto_front (texts (take i words))
@@ -92,16 +78,16 @@ all_before between words i is so_far =
     ∙ ap (λ front. texts front ∷ []) (take_all i words (omega (arith, is)))
 
 -- a second `if` is no condition
-pub no_condition : (front : List (List ℕ)) (parts : List (List (List ℕ))) → 0 < length parts → None ≡
-    condition_in_parts (front ∷ parts)
-no_condition front [] h = absurd (omega (arith, h))
-no_condition front (part ∷ parts) h = refl
+pub no_condition : (order : Order) (front : List (List ℕ)) (parts : List (List (List ℕ))) → 0 < length parts
+    → None ≡ condition_in_parts order (front ∷ parts)
+no_condition order front [] h = absurd (omega (arith, h))
+no_condition order front (part ∷ parts) h = refl
 
-pub second_if : (words : List (List ℕ)) (front : List (List ℕ)) (rest : Option (Bor (List Word))) → is_some rest ≡ true
+pub second_if : (order : Order) (words : List (List ℕ)) (front : List (List ℕ)) (rest : Option (Bor (List Word))) → is_some rest ≡ true
     → slice_split (bytes_eq (codes "if")) words ≡ front ∷ parts_behind (bytes_eq (codes "if")) rest
-    → None ≡ condition_in_parts (slice_split (bytes_eq (codes "if")) words)
-second_if words front None some is = cc
-second_if words front (Some rest) some is =
-    no_condition front (slice_split (bytes_eq (codes "if")) (texts rest.now))
+    → None ≡ condition_in_parts order (slice_split (bytes_eq (codes "if")) words)
+second_if order words front None some is = cc
+second_if order words front (Some rest) some is =
+    no_condition order front (slice_split (bytes_eq (codes "if")) (texts rest.now))
     (omega (arith, length-slice_split (bytes_eq (codes "if")) (texts rest.now)))
-    ∙ ap condition_in_parts (sym is)
+    ∙ ap (condition_in_parts order) (sym is)

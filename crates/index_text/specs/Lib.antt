@@ -1,7 +1,12 @@
+pub mod Diagnoses
 pub mod Entries
+pub mod Index
 pub mod Indexes
 pub mod Lines
+pub mod Orders
 pub mod Plain
 pub mod PlainLines
+pub mod PlainOrders
 pub mod Printed
 pub mod Sets
+pub mod Written

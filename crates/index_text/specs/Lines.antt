@@ -1,10 +1,10 @@
 -- The lines of an index: what each says, which of them are one index, and which one is unreadable.
 use Rattle.std.specs.Prelude.{ℕ, Bool, true, false, List, [], ◌∷◌, Option, None, Some}
-use Rattle.std.specs.Prelude.{option_map, option_and_then, if◌then◌else◌, codes}
+use Rattle.std.specs.Prelude.{option_map, option_and_then, if◌then◌else◌, codes, drop}
 use Rattle.std.specs.List.{list_all, join_by}
 use Rattle.std.specs.Str.{bytes_eq}
 use Rattle.index_text.specs.Entries.{EntryText, Needs, entries_of}
-use Rattle.index_text.specs.Sets.{version_of}
+use Rattle.index_text.specs.Orders.{Order, Numbers, Semver, number_in}
 
 -- what is said of a version: what it needs and limits, or why it may not be picked, or why nobody knows what it needs
 pub data VersionIs : Type 0 where
@@ -22,24 +22,25 @@ abbrev pub joined : List (List ℕ) → List ℕ
 joined words = join_by (λ word. word) (codes " ") words
 
 -- what is behind a name and a version
-abbrev pub is_of : List (List ℕ) → Option VersionIs
-is_of [] = Some (Offered [])
-is_of (keyword ∷ words) =
+abbrev pub is_of : Order → List (List ℕ) → Option VersionIs
+is_of order [] = Some (Offered [])
+is_of order (keyword ∷ words) =
     if bytes_eq keyword (codes "excluded") then Some (Excluded (joined words))
     else if bytes_eq keyword (codes "unknown") then Some (Unknown (joined words))
-    else option_map Offered (entries_of (keyword ∷ words))
+    else option_map Offered (entries_of order (keyword ∷ words))
 
 -- VERSION, and what is said of it
-abbrev pub version_named : List ℕ → List (List ℕ) → Option VersionText
-version_named name (version ∷ words) =
-    option_and_then (λ v. option_map (λ is. record { name = name; version = v; is = is }) (is_of words))
-    (version_of version)
-version_named name [] = None
+abbrev pub version_named : Order → List ℕ → List (List ℕ) → Option VersionText
+version_named order name (version ∷ words) =
+    option_and_then (λ v. option_map (λ is. record { name = name; version = v; is = is }) (is_of order words))
+    (number_in order version)
+version_named order name [] = None
 
 -- NAME VERSION, and what is said of it; no name is `request`
-abbrev pub version_said : List (List ℕ) → Option VersionText
-version_said (name ∷ words) = if bytes_eq name (codes "request") then None else version_named name words
-version_said [] = None
+abbrev pub version_said : Order → List (List ℕ) → Option VersionText
+version_said order (name ∷ words) =
+    if bytes_eq name (codes "request") then None else version_named order name words
+version_said order [] = None
 
 abbrev pub is_need : EntryText → Bool
 is_need (Needs need) = true
@@ -49,8 +50,15 @@ is_need _ = false
 abbrev pub all_needs : List EntryText → Option (List EntryText)
 all_needs entries = if list_all is_need entries then Some entries else None
 
+-- what is behind `request`, and behind `semver` if the versions are written so
+abbrev pub behind_order : Order → List (List ℕ) → List (List ℕ)
+behind_order Numbers words = words
+behind_order (Semver known) words = drop 1 words
+
 -- request, and what is needed
-abbrev pub request_said : List (List ℕ) → Option (List EntryText)
-request_said [] = None
-request_said (keyword ∷ words) =
-    if bytes_eq keyword (codes "request") then option_and_then all_needs (entries_of words) else None
+abbrev pub request_said : Order → List (List ℕ) → Option (List EntryText)
+request_said order [] = None
+request_said order (keyword ∷ words) =
+    if bytes_eq keyword (codes "request")
+    then option_and_then all_needs (entries_of order (behind_order order words))
+    else None

@@ -1,9 +1,10 @@
 -- What words say of version sets.
-use Rattle.std.specs.Prelude.{ℕ, ◌==◌, Bool, nat_le, ◌^◌, List, [], ◌∷◌, map, Option, None, Some}
+use Rattle.std.specs.Prelude.{ℕ, Bool, nat_le, ◌^◌, List, [], ◌∷◌, map, Option, None, Some}
 use Rattle.std.specs.Prelude.{option_map, option_and_then, if◌then◌else◌, codes}
 use Rattle.std.specs.Borrow.{Bor}
-use Rattle.std.specs.List.{before_first, after_first, slice_split}
+use Rattle.std.specs.List.{slice_split}
 use Rattle.std.specs.Str.{bytes_eq}
+use Rattle.index_text.specs.Orders.{Order, number_in, ends_of}
 use Rattle.script_text.specs.Numbers.{number_of, below}
 
 -- the versions v of a package with low <= v < high
@@ -20,30 +21,23 @@ texts words = map (λ (word : Bor (List ℕ)). word.now) words
 abbrev pub version_of : List ℕ → Option ℕ
 version_of word = below (2 ^ 32) (number_of word)
 
-abbrev pub is_dot : ℕ → Bool
-is_dot byte = byte == 46
-
 -- the lower bound first
 abbrev pub ordered : Option ℕ → Option ℕ → Option (ℕ × ℕ)
 ordered (Some low) (Some high) = if nat_le low high then Some (low, high) else None
 ordered _ _ = None
 
--- a bound, a dot, and behind it what begins with another dot
-abbrev pub bounds_of : List ℕ → List ℕ → Option (ℕ × ℕ)
-bounds_of low [] = None
-bounds_of low (byte ∷ high) = if is_dot byte then ordered (version_of low) (version_of high) else None
-
 -- LOW..HIGH
-abbrev pub range_of : List ℕ → Option (ℕ × ℕ)
-range_of word = bounds_of (before_first is_dot word) (after_first is_dot word)
+abbrev pub range_of : Order → List ℕ → Option (ℕ × ℕ)
+range_of order word =
+    option_and_then (λ ends. ordered (number_in order ends.0) (number_in order ends.1)) (ends_of word)
 
 abbrev pub set_within : List ℕ → ℕ × ℕ → SetText
 set_within name range = record { name = name; low = range.0; high = range.1 }
 
 -- NAME LOW..HIGH
-abbrev pub set_of : List (List ℕ) → Option SetText
-set_of (name ∷ range ∷ []) = option_map (set_within name) (range_of range)
-set_of _ = None
+abbrev pub set_of : Order → List (List ℕ) → Option SetText
+set_of order (name ∷ range ∷ []) = option_map (set_within name) (range_of order range)
+set_of order _ = None
 
 -- what each part says, if each says something
 abbrev pub each_of : {X Y : Type 0} → (X → Option Y) → List X → Option (List Y)
@@ -51,12 +45,12 @@ each_of read [] = Some []
 each_of read (x ∷ xs) = option_and_then (λ y. option_map (λ ys. y ∷ ys) (each_of read xs)) (read x)
 
 -- sets with this word between them
-abbrev pub sets_of : List ℕ → List (List ℕ) → Option (List SetText)
-sets_of between words = each_of set_of (slice_split (bytes_eq between) words)
+abbrev pub sets_of : Order → List ℕ → List (List ℕ) → Option (List SetText)
+sets_of order between words = each_of (set_of order) (slice_split (bytes_eq between) words)
 
 -- lists of sets: `or` between the lists, `and` between the sets of one
-abbrev pub alternatives_of : List (List ℕ) → Option (List (List SetText))
-alternatives_of words = each_of (sets_of (codes "and")) (slice_split (bytes_eq (codes "or")) words)
+abbrev pub alternatives_of : Order → List (List ℕ) → Option (List (List SetText))
+alternatives_of order words = each_of (sets_of order (codes "and")) (slice_split (bytes_eq (codes "or")) words)
 
 -- the parts behind a separator, if there is one
 abbrev pub parts_behind : (List ℕ → Bool) → Option (Bor (List (Bor (List ℕ)))) → List (List (List ℕ))

@@ -4,10 +4,13 @@ ghost use Rattle.std.specs.Str.{bytes_eq};
 ghost use Rattle.index_text.specs.Entries.{need_of, condition_in_parts, entry_of, alone, entries_of, is_entry, cut};
 ghost use Rattle.index_text.specs.Entries.{entries_behind};
 ghost use Rattle.index_text.specs.Plain.{plain_need, plain_lists, plain_entry, plain_entries};
+ghost use Rattle.index_text.specs.PlainOrders.{plain_order};
 ghost use Rattle.index_text.specs.Sets.{texts, parts_behind};
 
+use crate::order::Order;
 use crate::set::{Set, Sets, alternatives, read_set, read_sets};
 use crate::words::first_part;
+use script_text::is_word;
 use std::alloc::{AllocError, Global};
 
 /// What is needed.
@@ -32,21 +35,30 @@ pub enum Entry<'t> {
 }
 
 /// Whether the word begins an entry.
+#[inline(always)]
 fn is_entry(word: &str) -> bool
     ensures { result ≡ is_entry word.now }
 {
-    word == "needs" || word == "limits" || word == "favored" || word == "locked"
+    let word = word.as_bytes();
+    is_word(word, b"needs")
+        || is_word(word, b"limits")
+        || is_word(word, b"favored")
+        || is_word(word, b"locked")
 }
 
 /// `UNION`, or `UNION if CONDITION`.
-fn read_need<'t>(alloc: Global, words: &[&'t str]) -> Result<Option<Need<'t>>, AllocError>
-    ensures { IfOk result (λ found. option_map plain_need found ≡ need_of (texts words.now)) }
+fn read_need<'t>(
+    alloc: Global,
+    order: &Order,
+    words: &[&'t str],
+) -> Result<Option<Need<'t>>, AllocError>
+    ensures { IfOk result (λ found. option_map plain_need found ≡ need_of (plain_order order.now) (texts words.now)) }
 {
-    let (union, behind) = first_part(words, "if");
-    let Some(union) = read_sets(alloc, union, "|")? else {
+    let (union, behind) = first_part(words, b"if");
+    let Some(union) = read_sets(alloc, order, union, b"|")? else {
         return Ok(None);
     };
-    let Some(condition) = read_condition(alloc, behind)? else {
+    let Some(condition) = read_condition(alloc, order, behind)? else {
         return Ok(None);
     };
     Ok(Some(Need { union, condition }))
@@ -55,41 +67,48 @@ fn read_need<'t>(alloc: Global, words: &[&'t str]) -> Result<Option<Need<'t>>, A
 /// What is behind an `if`, or no condition.
 fn read_condition<'t>(
     alloc: Global,
+    order: &Order,
     words: Option<&[&'t str]>,
 ) -> Result<Option<Vec<Sets<'t>>>, AllocError>
     ensures { IfOk result (λ found. option_map plain_lists found ≡
-        condition_in_parts (parts_behind (bytes_eq (codes "if")) words.entry)) }
+        condition_in_parts (plain_order order.now) (parts_behind (bytes_eq (codes "if")) words.entry)) }
 {
     let Some(words) = words else {
         return Ok(Some(Vec::new(alloc)));
     };
-    let (condition, behind) = first_part(words, "if");
+    let (condition, behind) = first_part(words, b"if");
     if behind.is_some() {
         return Ok(None);
     }
-    alternatives(alloc, condition)
+    alternatives(alloc, order, condition)
 }
 
 /// An entry of these words, the first of which says its kind.
-fn read_entry<'t>(alloc: Global, words: &[&'t str]) -> Result<Option<Entry<'t>>, AllocError>
-    ensures { IfOk result (λ found. option_map plain_entry found ≡ entry_of (texts words.now)) }
+fn read_entry<'t>(
+    alloc: Global,
+    order: &Order,
+    words: &[&'t str],
+) -> Result<Option<Entry<'t>>, AllocError>
+    ensures { IfOk result (λ found. option_map plain_entry found ≡
+        entry_of (plain_order order.now) (texts words.now)) }
 {
     let [keyword, words @ ..] = words else {
         return Ok(None);
     };
-    match *keyword {
-        "needs" => match read_need(alloc, words)? {
-            Some(need) => Ok(Some(Entry::Needs(need))),
-            None => Ok(None),
-        },
-        "limits" => match read_set(words) {
-            Some(set) => Ok(Some(Entry::Limits(set))),
-            None => Ok(None),
-        },
-        "favored" => Ok(alone(Entry::Favored, words)),
-        "locked" => Ok(alone(Entry::Locked, words)),
-        _ => Ok(None),
+    let keyword = keyword.as_bytes();
+    if is_word(keyword, b"needs") {
+        return Ok(read_need(alloc, order, words)?.map(Entry::Needs));
     }
+    if is_word(keyword, b"limits") {
+        return Ok(read_set(alloc, order, words)?.map(Entry::Limits));
+    }
+    if is_word(keyword, b"favored") {
+        return Ok(alone(Entry::Favored, words));
+    }
+    if is_word(keyword, b"locked") {
+        return Ok(alone(Entry::Locked, words));
+    }
+    Ok(None)
 }
 
 /// The entry, if nothing is behind its keyword.
@@ -102,15 +121,17 @@ fn alone<'t>(entry: Entry<'t>, words: &[&str]) -> Option<Entry<'t>>
 /// The entries of these words.
 pub(crate) fn entries<'t>(
     alloc: Global,
+    order: &Order,
     words: &[&'t str],
 ) -> Result<Option<Vec<Entry<'t>>>, AllocError>
-    ensures { IfOk result (λ found. option_map plain_entries found ≡ entries_of (texts words.now)) }
+    ensures { IfOk result (λ found. option_map plain_entries found ≡
+        entries_of (plain_order order.now) (texts words.now)) }
 {
     let mut found = Vec::new(alloc);
     let mut rest = if words.is_empty() { None } else { Some(words) };
     'entries: while let Some(words) = rest {
         let (first, others) = first_entry(words);
-        let Some(entry) = read_entry(alloc, first)? else {
+        let Some(entry) = read_entry(alloc, order, first)? else {
             return Ok(None);
         };
         found.push(entry)?;

@@ -8,21 +8,36 @@
 //!     b 3 excluded does not build
 //!
 //! docs/INDEX.md has the format. A text may have several indexes, each of which begins with a `request` line. [`split`]
-//! finds the lines of each, and [`read_request`] and [`read_version`] read one line. Nothing is known here of ids: who
+//! finds the lines of each, and a [`Reader`] reads them one by one. Nothing is known here of ids: who
 //! reads an index makes of it what a resolver needs (`example_index`).
 //!
 //! `specs/` has the whole format: a contract says of each function that it reads just that, and nothing else.
 #![tactic(auto)]
 
+mod diagnosis;
+mod earlier;
 mod entry;
+mod expected;
 mod indexes;
+mod known;
 mod line;
+mod order;
+mod place;
+mod raw;
+mod reader;
 mod set;
+mod stop;
 mod version;
 mod words;
 
+pub use diagnosis::{Diagnosis, diagnose};
 pub use entry::{Entry, Need};
+pub use expected::Expected;
 pub use indexes::split;
+pub use known::Known;
 pub use line::Line;
+pub use order::Order;
+pub use raw::{raw_line, skip_lines};
+pub use reader::Reader;
 pub use set::{Set, Sets};
-pub use version::{State, Version, read_request, read_version};
+pub use version::{State, Version};

@@ -1,8 +1,10 @@
 //! Version sets of a line.
 ghost use Rattle.std.specs.Prelude.{◌≡◌, IfOk, option_map};
 ghost use Rattle.index_text.specs.Plain.{plain_set, plain_sets, plain_lists};
+ghost use Rattle.index_text.specs.PlainOrders.{plain_order};
 ghost use Rattle.index_text.specs.Sets.{texts, version_of, range_of, set_of, sets_of, alternatives_of};
 
+use crate::order::{Order, ends};
 use crate::words::first_part;
 use script_text::number;
 use std::alloc::{AllocError, Global};
@@ -30,50 +32,68 @@ pub(crate) fn version(word: &[u8]) -> Option<u32>
 }
 
 /// The bounds of `LOW..HIGH`, the lower one first.
-fn range(word: &str) -> Option<(u32, u32)>
-    ensures { result ≡ range_of word.now }
+pub(crate) fn range(
+    alloc: Global,
+    order: &Order,
+    word: &[u8],
+) -> Result<Option<(u32, u32)>, AllocError>
+    ensures { IfOk result (λ found. found ≡ range_of (plain_order order.now) word.now) }
 {
-    let (low, after) = word.split_once('.')?;
-    let [b'.', high @ ..] = after.as_bytes() else {
-        return None;
+    let Some((low, high)) = ends(word) else {
+        return Ok(None);
     };
-    let low = version(low.as_bytes())?;
-    let high = version(high)?;
-    if low <= high { Some((low, high)) } else { None }
+    let Some(low) = order.number(alloc, low)? else {
+        return Ok(None);
+    };
+    let Some(high) = order.number(alloc, high)? else {
+        return Ok(None);
+    };
+    if low <= high {
+        Ok(Some((low, high)))
+    } else {
+        Ok(None)
+    }
 }
 
 /// `NAME LOW..HIGH`.
-#[tactic(auto, using(crate::proofs::PartLemmas::no_set, crate::proofs::PartLemmas::set_of_two))]
-pub(crate) fn read_set<'t>(words: &[&'t str]) -> Option<Set<'t>>
-    ensures { option_map plain_set result ≡ set_of (texts words.now) }
+pub(crate) fn read_set<'t>(
+    alloc: Global,
+    order: &Order,
+    words: &[&'t str],
+) -> Result<Option<Set<'t>>, AllocError>
+    ensures { IfOk result (λ found. option_map plain_set found ≡ set_of (plain_order order.now) (texts words.now)) }
 {
-    if words.len() != 2 {
-        return None;
-    }
-    let (low, high) = range(words[1])?;
-    Some(Set {
-        name: words[0],
+    let [name, bounds] = words else {
+        return Ok(None);
+    };
+    let Some((low, high)) = range(alloc, order, bounds.as_bytes())? else {
+        return Ok(None);
+    };
+    Ok(Some(Set {
+        name: *name,
         low,
         high,
-    })
+    }))
 }
 
 /// Sets with a word between each and the next.
 pub(crate) fn read_sets<'t>(
     alloc: Global,
+    order: &Order,
     words: &[&'t str],
-    between: &str,
+    between: &[u8],
 ) -> Result<Option<Sets<'t>>, AllocError>
-    ensures { IfOk result (λ found. option_map plain_sets found ≡ sets_of between.now (texts words.now)) }
+    ensures { IfOk result (λ found. option_map plain_sets found ≡
+        sets_of (plain_order order.now) between.now (texts words.now)) }
 {
     let (part, mut rest) = first_part(words, between);
-    let Some(first) = read_set(part) else {
+    let Some(first) = read_set(alloc, order, part)? else {
         return Ok(None);
     };
     let mut others = Vec::new(alloc);
     'parts: while let Some(words) = rest {
         let (part, behind) = first_part(words, between);
-        let Some(set) = read_set(part) else {
+        let Some(set) = read_set(alloc, order, part)? else {
             return Ok(None);
         };
         others.push(set)?;
@@ -85,15 +105,17 @@ pub(crate) fn read_sets<'t>(
 /// Lists of sets: `or` between the lists, `and` between the sets of one.
 pub(crate) fn alternatives<'t>(
     alloc: Global,
+    order: &Order,
     words: &[&'t str],
 ) -> Result<Option<Vec<Sets<'t>>>, AllocError>
-    ensures { IfOk result (λ found. option_map plain_lists found ≡ alternatives_of (texts words.now)) }
+    ensures { IfOk result (λ found. option_map plain_lists found ≡
+        alternatives_of (plain_order order.now) (texts words.now)) }
 {
     let mut found = Vec::new(alloc);
     let mut rest = Some(words);
     'parts: while let Some(words) = rest {
-        let (part, behind) = first_part(words, "or");
-        let Some(together) = read_sets(alloc, part, "and")? else {
+        let (part, behind) = first_part(words, b"or");
+        let Some(together) = read_sets(alloc, order, part, b"and")? else {
             return Ok(None);
         };
         found.push(together)?;

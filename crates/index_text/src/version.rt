@@ -1,16 +1,13 @@
-//! What a line says: a request, or a version.
-ghost use Rattle.std.specs.Prelude.{◌≡◌, IfOk, option_map, option_and_then, map, string_bytes};
-ghost use Rattle.std.specs.List.{list_all};
-ghost use Rattle.index_text.specs.Lines.{version_said, version_named, request_said, is_need, is_of, joined};
-ghost use Rattle.index_text.specs.Plain.{plain_version, plain_state, plain_entry, plain_entries};
-ghost use Rattle.index_text.specs.PlainLines.{plain_line};
+//! What a line says of a version.
+ghost use Rattle.std.specs.Prelude.{◌≡◌, IfOk, option_map, string_bytes};
+ghost use Rattle.index_text.specs.Lines.{version_named, is_of, joined};
+ghost use Rattle.index_text.specs.Plain.{plain_version, plain_state};
+ghost use Rattle.index_text.specs.PlainOrders.{plain_order};
 ghost use Rattle.index_text.specs.Sets.{texts};
 
 use crate::entry::{Entry, entries};
-use crate::line::Line;
-use crate::set::version;
-use crate::words::words;
-use script_text::{is_word, text_of};
+use crate::order::Order;
+use script_text::is_word;
 use std::alloc::{AllocError, Global};
 
 /// A version of a package.
@@ -32,36 +29,23 @@ pub enum State<'t> {
     Unknown(String),
 }
 
-/// The version that a line says; none if it says none.
-pub fn read_version<'t>(alloc: Global, line: &Line<'t>) -> Result<Option<Version<'t>>, AllocError>
-    ensures { IfOk result (λ found. option_map plain_version found ≡
-        option_and_then version_said (plain_line line.now).words) }
-{
-    let Some(said) = line.said else {
-        return Ok(None);
-    };
-    if is_word(said.keyword, b"request") {
-        return Ok(None);
-    }
-    let words = words(alloc, said.rest)?;
-    version_of(alloc, text_of(said.keyword), &words)
-}
-
 /// The version of this name, from the words behind it.
-fn version_of<'t>(
+pub(crate) fn version_of<'t>(
     alloc: Global,
+    order: &Order,
     name: &'t str,
     words: &[&'t str],
 ) -> Result<Option<Version<'t>>, AllocError>
-    ensures { IfOk result (λ found. option_map plain_version found ≡ version_named name.now (texts words.now)) }
+    ensures { IfOk result (λ found. option_map plain_version found ≡
+        version_named (plain_order order.now) name.now (texts words.now)) }
 {
     let [number, words @ ..] = words else {
         return Ok(None);
     };
-    let Some(version) = version(number.as_bytes()) else {
+    let Some(version) = order.number(alloc, number.as_bytes())? else {
         return Ok(None);
     };
-    let Some(state) = read_state(alloc, words)? else {
+    let Some(state) = read_state(alloc, order, words)? else {
         return Ok(None);
     };
     Ok(Some(Version {
@@ -72,20 +56,24 @@ fn version_of<'t>(
 }
 
 /// What the words behind a name and a version say.
-fn read_state<'t>(alloc: Global, words: &[&'t str]) -> Result<Option<State<'t>>, AllocError>
-    ensures { IfOk result (λ found. option_map plain_state found ≡ is_of (texts words.now)) }
+fn read_state<'t>(
+    alloc: Global,
+    order: &Order,
+    words: &[&'t str],
+) -> Result<Option<State<'t>>, AllocError>
+    ensures { IfOk result (λ found. option_map plain_state found ≡ is_of (plain_order order.now) (texts words.now)) }
 {
     let [keyword, reason @ ..] = words else {
         return Ok(Some(State::Offered(Vec::new(alloc))));
     };
-    match *keyword {
-        "excluded" => Ok(Some(State::Excluded(joined(alloc, reason)?))),
-        "unknown" => Ok(Some(State::Unknown(joined(alloc, reason)?))),
-        _ => match entries(alloc, words)? {
-            Some(entries) => Ok(Some(State::Offered(entries))),
-            None => Ok(None),
-        },
+    let keyword = keyword.as_bytes();
+    if is_word(keyword, b"excluded") {
+        return Ok(Some(State::Excluded(joined(alloc, reason)?)));
     }
+    if is_word(keyword, b"unknown") {
+        return Ok(Some(State::Unknown(joined(alloc, reason)?)));
+    }
+    Ok(entries(alloc, order, words)?.map(State::Offered))
 }
 
 /// Words with a blank between each and the next.
@@ -100,42 +88,4 @@ fn joined(alloc: Global, words: &[&str]) -> Result<String, AllocError>
         text.push_str(word)?;
     }
     Ok(text)
-}
-
-/// The needs of a line that is a request; none if it is none.
-pub fn read_request<'t>(
-    alloc: Global,
-    line: &Line<'t>,
-) -> Result<Option<Vec<Entry<'t>>>, AllocError>
-    ensures { IfOk result (λ found. option_map plain_entries found ≡
-        option_and_then request_said (plain_line line.now).words) }
-{
-    let Some(said) = line.said else {
-        return Ok(None);
-    };
-    if !is_word(said.keyword, b"request") {
-        return Ok(None);
-    }
-    let words = words(alloc, said.rest)?;
-    let Some(entries) = entries(alloc, &words)? else {
-        return Ok(None);
-    };
-    if are_needs(&entries) {
-        Ok(Some(entries))
-    } else {
-        Ok(None)
-    }
-}
-
-/// Whether all entries are needs.
-fn are_needs(entries: &[Entry<'_>]) -> bool
-    ensures { result ≡ list_all is_need (map plain_entry entries.now) }
-{
-    for entry in entries {
-        match entry {
-            Entry::Needs(_) => {}
-            _ => return false,
-        }
-    }
-    true
 }

@@ -1,39 +1,69 @@
 //! Words, and the parts between some of them.
-ghost use Rattle.std.specs.Prelude.{◌≡◌, ◌<◌, ◌∷◌, length, IfOk, IfSome};
+ghost use Rattle.std.specs.Prelude.{◌≡◌, ◌<◌, ◌≤◌, ◌≢◌, [], ◌∷◌, length, slice_get, OnOk, IfSome, MatchOption};
 ghost use Rattle.std.specs.List.{slice_split};
 ghost use Rattle.std.specs.Str.{bytes_eq};
 ghost use Rattle.script_text.specs.Lines.{IsPrinted};
 ghost use Rattle.script_text.specs.Words.{words as words_of};
 ghost use Rattle.index_text.specs.Sets.{texts, parts_behind};
 
-use script_text::{next_word, text_of};
-use std::alloc::{AllocError, Global};
+use script_text::{is_word, text_of};
+use std::alloc::AllocError;
 
-/// The words of a line.
-pub(crate) fn words(alloc: Global, line: &[u8]) -> Result<Vec<&str>, AllocError>
+/// The words of a line, in place of what the vector has.
+pub(crate) fn split_words<'t>(found: &mut Vec<&'t str>, line: &'t [u8]) -> Result<(), AllocError>
     requires { IsPrinted line.now }
-    ensures { IfOk result (λ found. texts found.items ≡ words_of line.now) }
+    ensures { OnOk result (texts found.new.items ≡ words_of line.now) }
 {
-    let mut found = Vec::new(alloc);
-    let mut rest = line;
+    found.clear();
+    let mut rest = text_of(line);
     while let Some((word, others)) = next_word(rest) {
-        found.push(text_of(word))?;
+        found.push(word)?;
         rest = others;
     }
-    Ok(found)
+    Ok(())
+}
+
+/// The first word of a line, and what is behind it; none if no word is left.
+#[inline(always)]
+fn next_word(line: &str) -> Option<(&str, &str)>
+    ensures first { MatchOption result (words_of line.now ≡ []) (λ r. words_of line.now ≡ r.0.now ∷ words_of r.1.now) }
+    ensures shorter { IfSome result (λ r. length r.1.now < length line.now) }
+{
+    let text = without_blanks(line);
+    if text.is_empty() {
+        return None;
+    }
+    match text.split_once(' ') {
+        Some((word, rest)) => Some((word, rest)),
+        None => Some((text, "")),
+    }
+}
+
+/// A line from its first word on.
+#[inline(always)]
+fn without_blanks(line: &str) -> &str
+    ensures words { words_of result.now ≡ words_of line.now }
+    ensures begins { IfSome (slice_get result.now 0) (λ b. b ≢ 32) }
+    ensures shorter { length result.now ≤ length line.now }
+{
+    let mut text = line;
+    while let Some(rest) = text.strip_prefix(' ') {
+        text = rest;
+    }
+    text
 }
 
 /// The words before the first one that reads so, and those behind it if there is one.
 pub(crate) fn first_part<'w, 't>(
     words: &'w [&'t str],
-    between: &str,
+    between: &[u8],
 ) -> (&'w [&'t str], Option<&'w [&'t str]>)
     ensures parts { slice_split (bytes_eq between.now) (texts words.now) ≡
         texts result.0.now ∷ parts_behind (bytes_eq between.now) result.1 }
     ensures shorter { IfSome result.1 (λ rest. length rest.now < length words.now) }
 {
     for (i, word) in words.iter().enumerate() {
-        if between == *word {
+        if is_word(between, word.as_bytes()) {
             return (&words[..i], Some(&words[i + 1..]));
         }
     }

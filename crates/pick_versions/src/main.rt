@@ -8,19 +8,21 @@
 #![tactic(auto)]
 
 mod options;
+mod remarks;
 
 ghost use Rattle.std.specs.Prelude.{◌≡◌};
 ghost use Rattle.std.specs.Process.{exit_status};
 ghost use Rattle.example_answers.specs.Status.{status_of};
 
 use anyhow::{Result, anyhow};
-use example_answers::Outcome;
+use example_answers::{Outcome, PrintFault, print_in_turn};
 use options::Options;
+use remarks::{Input, Remarking};
 use std::alloc::Global;
-use std::fs;
 use std::io::Read;
 use std::process::ExitCode;
 use std::rt::{Files, Runtime};
+use std::{fs, io};
 
 fn main(rt: HostRuntime) -> ExitCode {
     match obey(&rt) {
@@ -71,19 +73,25 @@ fn answer_inputs(
     let mut worst = Outcome::Picked;
     let mut is_first = true;
     if options.files.is_empty() {
-        let mut input = Vec::new(alloc);
-        rt.reader().read_to_end(&mut input)?;
-        worst = answer_input(rt, alloc, &input, options.steps, &mut is_first)?;
+        let mut bytes = Vec::new(alloc);
+        if let Err(fault) = rt.reader().read_to_end(&mut bytes) {
+            return Err(anyhow!("standard input: {fault}"));
+        }
+        let input = Input {
+            name: "standard input",
+            bytes: &bytes,
+        };
+        worst = answer_input(rt, alloc, input, options.steps, &mut is_first)?;
     }
     for file in &options.files {
         match fs::read(rt, *file) {
-            Ok(input) => worst = worst.worse(answer_input(
-                rt,
-                alloc,
-                &input,
-                options.steps,
-                &mut is_first,
-            )?),
+            Ok(bytes) => {
+                let input = Input {
+                    name: *file,
+                    bytes: &bytes,
+                };
+                worst = worst.worse(answer_input(rt, alloc, input, options.steps, &mut is_first)?);
+            }
             Err(fault) => {
                 eprintln!(rt; "{file:?}: {fault}")?;
                 worst = Outcome::Failed;
@@ -93,23 +101,25 @@ fn answer_inputs(
     Ok(worst)
 }
 
-/// Answers each index of an input, with an empty line before each answer but the first of all. The worst outcome.
+/// Answers each index of an input on standard output. The worst outcome.
 fn answer_input(
-    rt: &impl Print,
+    rt: &(impl Print + Eprint),
     alloc: Global,
-    input: &[u8],
+    input: Input<'_, '_>,
     steps: u64,
     is_first: &mut bool,
 ) -> Result<Outcome> {
-    let mut worst = Outcome::Picked;
-    for lines in &index_text::split(alloc, input)? {
-        if !*is_first {
-            println!(rt)?;
-        }
-        *is_first = false;
-        let answered = example_answers::answer(alloc, lines, steps)?;
-        print!(rt; "{}", answered.text)?;
-        worst = worst.worse(answered.outcome);
+    let mut answering = Remarking::new(rt, steps, input);
+    let printed = print_in_turn(
+        alloc,
+        input.bytes,
+        &mut answering,
+        is_first,
+        &mut io::writer(rt),
+    );
+    match printed {
+        Ok(worst) => Ok(worst),
+        Err(PrintFault::Memory(refused)) => Err(anyhow!("{refused}")),
+        Err(PrintFault::Device(fault)) => Err(anyhow!("standard output: {fault}")),
     }
-    Ok(worst)
 }

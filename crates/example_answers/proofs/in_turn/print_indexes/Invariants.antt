@@ -1,0 +1,12 @@
+use Rattle.std.proofs.Common.{map}
+use Rattle.index_text.specs.PlainLines.{plain_lines}
+use Rattle.script_text.specs.Devices.{GoesWell}
+use Rattle.example_answers.proofs.PrintLemmas.{SoFar}
+use Rattle.example_answers.proofs.in_turn.print_indexes.Given as goal
+
+abbrev pub invariant-loop-lines : goal.invariant-loop-lines
+invariant-loop-lines g l = record {
+  so_far : SoFar g.A.Answering.answers l.fn.is_first (map plain_lines l.indexes) l.lines-index
+      (g.W.Sink.contents l.fn.writer) (g.W.Sink.contents l.writer) l.is_first l.worst;
+  writer : GoesWell g.W.Sink.writes g.W.Sink.fails l.fn.writer l.writer;
+}

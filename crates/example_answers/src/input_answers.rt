@@ -1,0 +1,48 @@
+//! The answers of an input.
+ghost use Rattle.std.specs.Prelude.{◌≡◌, OnOk};
+ghost use Rattle.index_text.specs.Indexes.{indexes_of};
+ghost use Rattle.example_answers.specs.Answers.{AnswersLines};
+ghost use Rattle.example_answers.specs.Printed.{Prints, PrintingEnds, is_first_after};
+
+use crate::answering::Answering;
+use crate::in_turn::print_in_turn;
+use crate::index_answer::{AnswerText, answer};
+use crate::outcome::Outcome;
+use crate::print_fault::PrintFault;
+use example_index::SmallIndex;
+use index_text::Line;
+use resolvo_pool::{Interner, ProviderFunctions};
+use script_text::Sink;
+use std::alloc::{AllocError, Global};
+
+/// The search for the best solution, in no more steps than these.
+#[derive(Drop)]
+struct Search {
+    steps: u64,
+}
+
+impl Answering for Search {
+    ghost answers = { AnswersLines ⟦<SmallIndex as ProviderFunctions>⟧.functions ⟦<SmallIndex as Interner>⟧.texts };
+
+    fn answer(&mut self, alloc: Global, lines: &[Line<'_>]) -> Result<AnswerText, AllocError> {
+        answer(alloc, lines, self.steps)
+    }
+}
+
+/// Answers each index of an input in turn, each in no more steps than these, and prints the answers, with an empty line
+/// before each but the first of all. The worst outcome. If it ends early, nothing is said of `is_first`.
+pub fn answer_all<W: Sink>(
+    alloc: Global,
+    input: &[u8],
+    steps: u64,
+    is_first: &mut bool,
+    writer: &mut W,
+) -> Result<Outcome, PrintFault>
+    ensures prints { Prints
+        (AnswersLines ⟦<SmallIndex as ProviderFunctions>⟧.functions ⟦<SmallIndex as Interner>⟧.texts)
+        is_first.old (indexes_of input.now) (W.contents writer.old) result (W.contents writer.new) }
+    ensures first { OnOk result (is_first.new ≡ is_first_after is_first.old (indexes_of input.now)) }
+    ensures ends { PrintingEnds W.writes W.fails writer.old result writer.new }
+{
+    print_in_turn(alloc, input, &mut Search { steps }, is_first, writer)
+}

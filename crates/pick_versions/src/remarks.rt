@@ -1,0 +1,266 @@
+//! What is said on standard error besides an answer: why a line is unreadable, and what is noteworthy of an index.
+ghost use Rattle.example_answers.specs.Answers.{AnswersLines};
+
+use example_answers::{AnswerText, Answering, answer};
+use example_index::SmallIndex;
+use index_text::{Line, diagnose, raw_line, skip_lines};
+use resolvo_pool::{Interner, ProviderFunctions};
+use std::alloc::{AllocError, Global};
+
+/// A text, and what it is called.
+#[derive(Clone, Copy)]
+pub struct Input<'n, 't> {
+    pub name: &'n str,
+    pub bytes: &'t [u8],
+}
+
+/// The search for the best solution, which says on standard error what there is to say besides its answers.
+#[derive(Drop)]
+pub struct Remarking<'r, 'n, 't, R: Eprint> {
+    rt: &'r R,
+    /// How many steps a search makes at most.
+    steps: u64,
+    remarks: Remarks<'n, 't>,
+}
+
+impl<'r, 'n, 't, R: Eprint> Remarking<'r, 'n, 't, R> {
+    /// The search in the indexes of an input.
+    pub fn new(rt: &'r R, steps: u64, input: Input<'n, 't>) -> Self {
+        Remarking {
+            rt,
+            steps,
+            remarks: Remarks::new(input),
+        }
+    }
+}
+
+impl<R: Eprint> Answering for Remarking<'_, '_, '_, R> {
+    ghost answers = { AnswersLines ⟦<SmallIndex as ProviderFunctions>⟧.functions ⟦<SmallIndex as Interner>⟧.texts };
+
+    fn answer(&mut self, alloc: Global, lines: &[Line<'_>]) -> Result<AnswerText, AllocError> {
+        let answered = answer(alloc, lines, self.steps)?;
+        self.remarks.say(self.rt, alloc, lines, &answered);
+        Ok(answered)
+    }
+}
+
+/// An input, and the place in it from which on lines are looked for.
+#[derive(Drop)]
+struct Remarks<'n, 't> {
+    name: &'n str,
+    /// The input from the line of this number on.
+    rest: &'t [u8],
+    number: u64,
+}
+
+impl<'n, 't> Remarks<'n, 't> {
+    /// An input, at its first line.
+    fn new(input: Input<'n, 't>) -> Self {
+        Remarks {
+            name: input.name,
+            rest: input.bytes,
+            number: 1,
+        }
+    }
+
+    /// Says what there is to say of the index of these lines besides its answer, as far as there is memory, and
+    /// standard error can be written. Indexes come in their order.
+    fn say(&mut self, rt: &impl Eprint, alloc: Global, lines: &[Line<'_>], answered: &AnswerText) {
+        if let Some(number) = answered.unreadable {
+            if let Ok(fault) = self.fault(alloc, lines, number) {
+                let _ = eprint!(rt; "{fault}");
+            }
+        }
+        let first = lines.first().map_or(1, |line| line.number);
+        for note in answered.notes.as_str().lines() {
+            let _ = eprintln!(rt; "{}:{first}: note: {note}", self.name);
+        }
+    }
+
+    /// The place of an unreadable line, and what was expected there. The line isn't before one that was looked for.
+    fn fault(
+        &mut self,
+        alloc: Global,
+        lines: &[Line<'_>],
+        number: u64,
+    ) -> Result<String, AllocError> {
+        let name = self.name;
+        self.rest = skip_lines(self.rest, number.saturating_sub(self.number));
+        self.number = self.number.max(number);
+        match diagnose(alloc, lines, number, raw_line(self.rest))? {
+            Some(fault) => {
+                let (column, expected) = (fault.column, fault.expected);
+                format!(in alloc; "{name}:{number}:{column}: {expected}\n")
+            }
+            None => Ok(String::new(alloc)),
+        }
+    }
+}
+
+#[cfg(test)]
+mod tests {
+    use super::{Input, Remarks};
+    use std::alloc::{AllocError, Global};
+    use std::test::Fail;
+
+    const REQUEST: &str = "request needs app 1..9\n";
+
+    fn of_lines(alloc: Global, lines: &[&str]) -> Result<String, AllocError> {
+        let mut text = String::new(alloc);
+        for line in lines {
+            text.push_str(line)?;
+            text.push('\n')?;
+        }
+        Ok(text)
+    }
+
+    #[test]
+    fn says_where_and_what_was_expected(rt: HostRuntime) -> Result<(), Fail> {
+        let alloc = rt.alloc();
+        for (line, said) in [
+            ("app", "4: expected a version: a number below 2^32"),
+            (
+                "app 4294967296",
+                "5: expected a version: a number below 2^32",
+            ),
+            (
+                "app\t1",
+                "4: expected a printed character of ASCII or a blank",
+            ),
+            (
+                "app 1 excluded needs b 1..2\u{e9}",
+                "28: expected a printed character of ASCII or a blank",
+            ),
+            (
+                "app 1 wants b 1..2",
+                "7: expected needs, limits, favored or locked",
+            ),
+            (
+                "app 1 favored excluded",
+                "15: expected needs, limits, favored or locked",
+            ),
+            ("app 1 needs", "12: expected a package's name"),
+            (
+                "app 1 needs b 1..2 | needs c 1..2",
+                "22: expected a package's name",
+            ),
+            ("app 1 needs if b 1..2", "13: expected a package's name"),
+            ("app 1 needs b", "14: expected LOW..HIGH, as 1..3"),
+            ("  app 1  limits b  1.3 ", "20: expected LOW..HIGH, as 1..3"),
+            ("app 1 limits b 3..1", "16: LOW may not be above HIGH"),
+            (
+                "app 1 needs b 1..2 or c 1..2",
+                "20: expected |, if, needs, limits, favored or locked",
+            ),
+            (
+                "app 1 needs b 1..2 if c 1..2 | d 1..2",
+                "30: expected and, or, needs, limits, favored or locked",
+            ),
+            (
+                " web 1 favored",
+                "2: this version has a line already: line 2",
+            ),
+            ("web 01", "1: this version has a line already: line 2"),
+        ] {
+            let text = format!(in alloc; "{REQUEST}web 1\nweb 2\n{line}\nweb 1\n")?;
+            let indexes = index_text::split(alloc, text.as_bytes())?;
+            let mut remarks = Remarks::new(Input {
+                name: "index.txt",
+                bytes: text.as_bytes(),
+            });
+            assert_eq!(rt; indexes.len(), 1);
+            for lines in &indexes {
+                let fault = remarks.fault(alloc, lines, 4)?;
+                assert_eq!(rt;
+                    fault.as_str(),
+                    format!(in alloc; "index.txt:4:{said}\n")?.as_str()
+                );
+            }
+        }
+        Ok(())
+    }
+
+    #[test]
+    fn says_what_a_request_lacks(rt: HostRuntime) -> Result<(), Fail> {
+        let alloc = rt.alloc();
+        for (text, said) in [
+            (
+                "app 1\nrequest\n",
+                "1:1: expected the line request before all others\n",
+            ),
+            (
+                "request needs app 1..9 limits b 1..2\n",
+                "1:24: expected needs: a request has no other entries\n",
+            ),
+            (
+                "\n# a\nrequest needs app\r\n",
+                "3:18: expected LOW..HIGH, as 1..3\n",
+            ),
+        ] {
+            let indexes = index_text::split(alloc, text.as_bytes())?;
+            let mut remarks = Remarks::new(Input {
+                name: "index.txt",
+                bytes: text.as_bytes(),
+            });
+            let number = indexes[0][0].number;
+            let fault = remarks.fault(alloc, &indexes[0], number)?;
+            assert_eq!(rt;
+                fault.as_str(),
+                format!(in alloc; "index.txt:{said}")?.as_str()
+            );
+        }
+        Ok(())
+    }
+
+    #[test]
+    fn notes_sets_without_a_version(rt: HostRuntime) -> Result<(), Fail> {
+        let alloc = rt.alloc();
+        let text = of_lines(
+            alloc,
+            &[
+                "request needs app 1..9 needs libssl 1..2",
+                "app 1 needs openssl 5..6",
+                "app 2 needs libssl 1..9 limits app 1..1",
+                "app 3",
+                "app 4",
+                "app 5",
+                "app 6",
+                "openssl 1",
+                "openssl 2",
+                "openssl 3",
+            ],
+        )?;
+        let notes = of_lines(
+            alloc,
+            &[
+                "no line has a package libssl",
+                "openssl 5..6 holds no version; openssl has 1, 2, 3",
+                "app 1..1 holds no version; app has 1, 2, 3, 4, 5, ..",
+            ],
+        )?;
+        let indexes = index_text::split(alloc, text.as_bytes())?;
+        assert_eq!(rt; indexes.len(), 1);
+        for lines in &indexes {
+            let answered = example_answers::answer(alloc, lines, 1000)?;
+            assert_eq!(rt; answered.notes.as_str(), notes.as_str());
+        }
+        Ok(())
+    }
+
+    #[test]
+    fn notes_twenty_at_most(rt: HostRuntime) -> Result<(), Fail> {
+        let alloc = rt.alloc();
+        let mut text = String::from_str(alloc, "request")?;
+        for number in 0..25 {
+            text.push_str(&format!(in alloc; " needs a{number} 1..2")?)?;
+        }
+        let indexes = index_text::split(alloc, text.as_bytes())?;
+        assert_eq!(rt; indexes.len(), 1);
+        for lines in &indexes {
+            let answered = example_answers::answer(alloc, lines, 1000)?;
+            assert_eq!(rt; answered.notes.as_str().lines().count(), 21);
+            assert_eq!(rt; answered.notes.as_str().lines().last(), Some("and 5 more"));
+        }
+        Ok(())
+    }
+}
