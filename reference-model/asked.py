@@ -7,7 +7,8 @@ CRATES = os.path.join(os.path.dirname(os.path.dirname(os.path.abspath(__file__))
 
 def ran(main, about):
     """Calls a script's main with the words of the command line, and answers its exit status. With --help it prints what
-    the script is about instead. A file or a program that isn't there is told in a sentence.
+    the script is about instead. A file or a program that isn't there is told in a sentence, and so is a program that
+    writes no text.
     """
     words = sys.argv[1:]
     if {"-h", "--help"} & {*words}:
@@ -19,6 +20,8 @@ def ran(main, about):
         if fault.filename is None:
             raise
         return f"{fault.filename}: {fault.strerror}"
+    except UnicodeDecodeError as fault:
+        return f"what was read is no text: {fault}"
 
 
 def numbers_and_program(words, crate, has_unproved=False):

@@ -19,9 +19,9 @@ def wishes_of(index):
 
 
 def best_first(index, span):
-    """The versions of a range from the highest down, but the favored one first."""
+    """The versions of a range, those of later lines first, but the favored one before all."""
     favored = index.favored.get(span[0])
-    return sorted(index.among([span]), key=lambda version: (version == favored, version[1]), reverse=True)
+    return sorted(reversed(index.among([span])), key=lambda version: version != favored)
 
 
 def rank(wish, picked):
@@ -34,10 +34,10 @@ def ranks_of(index, choices):
     return [[rank(wish, picked) for wish in wishes] for picked in choices]
 
 
-def better_than(index, picked):
-    """The best solution, if it is better; otherwise none."""
+def better_than(index, picked, count=None):
+    """The best solution by all wishes, or by the first ones, if it is better; otherwise none."""
     solutions = index.solutions()
-    ranks, *others = ranks_of(index, [picked, *solutions])
+    ranks, *others = (ranks[:count] for ranks in ranks_of(index, [picked, *solutions]))
     lowest, best = min(zip(others, solutions), key=lambda it: it[0])
     return best if lowest < ranks else None
 

@@ -4,8 +4,15 @@ Numbers come back without leading zeros, so that words that name the same thing 
 """
 
 
+import re
+
+
 class Unreadable(Exception):
-    """Why a line isn't in the format."""
+    """Why a line isn't in the format, and perhaps in which column: these are counted from 1."""
+
+    def __init__(self, why, column=None):
+        super().__init__(why)
+        self.column = column
 
 
 # What a word may be, and the limit of its number.
@@ -87,12 +94,17 @@ def lines(script):
 
 def words(line):
     """The words of a line; none of a comment."""
-    for byte in line:
+    return [word for _, word in placed_words(line)]
+
+
+def placed_words(line):
+    """The words of a line, each behind its column; none of a comment."""
+    for column, byte in enumerate(line, 1):
         if not 32 <= byte <= 126:
             what = "a tab" if byte == 9 else f"the byte {byte}"
-            raise Unreadable(f"{what} is no printed character of ASCII, nor a blank")
-    cut = [word for word in line.decode("ascii").split(" ") if word]
-    return [] if cut and cut[0].startswith("#") else cut
+            raise Unreadable(f"{what} is no printed character of ASCII, nor a blank", column)
+    cut = [(found.start() + 1, found[0]) for found in re.finditer("[^ ]+", line.decode("ascii"))]
+    return [] if cut and cut[0][1].startswith("#") else cut
 
 
 def number(word, limit, what):

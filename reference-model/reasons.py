@@ -1,6 +1,6 @@
 """Judges why there is no solution: whether what is written is what the index says, and whether nothing can meet it all.
 
-A version is a name and a number. A clause is a dict of versions, of which one has to be picked where it has true, or
+A version is a name and what stands behind it. A clause is a dict of versions, of which one has to be picked where it has true, or
 not to be picked where it has false.
 """
 import itertools
@@ -9,36 +9,53 @@ from indexes import said
 
 
 def is_reason(index, lines):
-    """Whether the index says each of these lines, and no choice meets all of them. Two versions of a package may be
-    picked together unless a line says otherwise.
+    """Whether the index says each of these lines, and no choice meets all of them."""
+    return not unsaid(index, lines) and is_enough(index, lines)
+
+
+def unsaid(index, lines):
+    """Those of these lines that the index doesn't say."""
+    said_lines = {line for line, _ in said_by(index)}
+    return [line for line in lines if line not in said_lines]
+
+
+def is_enough(index, lines):
+    """Whether no choice meets all of these lines. Two versions of a package may be picked together unless a line says
+    otherwise.
     """
-    known = {}
-    for line, clauses in said_by(index):
-        known.setdefault(line, []).extend(clauses)
-    clauses = [clause for line in lines for clause in known.get(line, ())]
-    return all(line in known for line in lines) and not can_be_met([it for it in clauses if it is not None])
+    clauses = [clause for line, of_line in said_by(index) if line in lines for clause in of_line]
+    return not can_be_met([clause for clause in clauses if clause is not None])
 
 
 def said_by(index):
-    """Each line that the index says, with its clauses. Two needs may be told by one line."""
+    """Each line that the index says, with its clauses, which are made when they are read. Two needs may be told by one
+    line.
+    """
     for line, parent, spans, condition in index.all_needs():
         candidates = index.among(spans)
-        yield line + ("" if candidates else ", and there is none"), [
-            clause_of([parent, *heads], candidates) for heads in heads_of(index, condition)
-        ]
+        yield line + ("" if candidates else ", and there is none"), need_clauses(index, parent, condition, candidates)
     for line, parent, limit in index.all_limits():
         outside = set(index.of_name(limit[0])) - set(index.among([limit]))
         yield line, [clause_of([parent, version], []) for version in outside]
-    for version in index.excluded:
+    for version in index.marked["excluded"]:
         yield f"{said(version)} is excluded", [clause_of([version], [])]
-    for version in index.unknown:
+    for version in index.marked["unknown"]:
         yield f"{said(version)} needs what can't be told", [clause_of([version], [])]
     for name, locked in index.locked.items():
         others = set(index.of_name(name)) - {locked}
         yield f"{said(locked)} is locked", [clause_of([other], []) for other in others]
     for name in index.versions:
-        pairs = itertools.combinations(index.of_name(name), 2)
-        yield f"one version of {name}", [clause_of(pair, []) for pair in pairs]
+        yield f"one version of {name}", pair_clauses(index.of_name(name))
+
+
+def need_clauses(index, parent, condition, candidates):
+    for heads in heads_of(index, condition):
+        yield clause_of([parent, *heads], candidates)
+
+
+def pair_clauses(versions):
+    for pair in itertools.combinations(versions, 2):
+        yield clause_of(pair, [])
 
 
 def heads_of(index, condition):

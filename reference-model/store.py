@@ -40,10 +40,6 @@ class Packages:
         elif kind == "string":
             number_in(self.strings, words[0])
 
-    def knows(self, requirement):
-        number = int(requirement[1:])
-        return number < len(self.sets if requirement[0] == "s" else self.unions)
-
     def sets_of(self, requirement):
         number = int(requirement[1:])
         return [number] if requirement[0] == "s" else self.unions[number]
@@ -130,24 +126,37 @@ class Store:
 
     def knows_all(self, kind, words):
         """Whether each id that the command names is known."""
-        known = {
+        return not self.first_unknown(kind, words) and not self.tracks_helper(kind, words)
+
+    def first_unknown(self, kind, words):
+        """The first id that a command names and that isn't known: of what, and its number. None if each is known."""
+        known = self.known()
+        for what, word in zip(operands(kind, words), words):
+            if what == "requirement":
+                what, word = {"s": "set", "u": "union"}[word[0]], word[1:]
+            elif what == "literal":
+                what, word = "variable", word[1:]
+            if what in known and not int(word) < len(known[what]):
+                return what, int(word)
+        return None
+
+    def known(self):
+        """What there is of each kind that a command can name by a number."""
+        return {
             "solvable": self.packages.solvables,
             "name": self.packages.names,
             "set": self.packages.sets,
+            "union": self.packages.unions,
             "string": self.packages.strings,
             "condition": self.packages.conditions,
             "variable": self.origins,
             "clause": self.clauses,
             "disjunction": self.disjunctions,
         }
-        for what, word in zip(operands(kind, words), words):
-            if what == "requirement" and not self.packages.knows(word):
-                return False
-            if what == "literal" and not literal(word)[0] < len(self.origins):
-                return False
-            if what in known and not int(word) < len(known[what]):
-                return False
-        return kind != "at-most-once" or self.origins[int(words[1])][0] != "forbid"
+
+    def tracks_helper(self, kind, words):
+        """Whether a command would track a helper of what is tracked."""
+        return kind == "at-most-once" and self.origins[int(words[1])][0] == "forbid"
 
     def can_rewatch(self, clause, old, new):
         watches = self.watches[clause]
