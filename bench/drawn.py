@@ -120,7 +120,7 @@ def run(words, text, limit):
     of megabytes.
     """
     starter = [sys.executable, "-I", "-S", "-c", STARTER, str(limit), *words]
-    done = subprocess.run(starter, input=text, capture_output=True, text=True)
+    done = subprocess.run(starter, input=text, capture_output=True, text=True, errors="replace")
     if done.returncode:
         sys.exit(f"{words[0]} can't be run")
     seconds, peak, status = done.stderr.splitlines()[-1].split()
@@ -141,6 +141,8 @@ def by_program(program, index, limit):
     if lines[:1] == ["none"] or lines[:1] and lines[0].startswith("gave up"):
         return None, lines[0], *used
     word = lines.pop() if lines[-1:] and lines[-1].startswith("the best by") else "found"
+    if not all(re.fullmatch(r"\S+ [0-9]+", line) for line in lines):
+        sys.exit(f"{program} doesn't answer as pick_versions does")
     return picked_of(lines), word, *used
 
 
@@ -175,7 +177,9 @@ def check_share(program, index):
     with tempfile.TemporaryDirectory() as folder:
         out = f"{folder}/out"
         counted = ["valgrind", "--tool=callgrind", f"--callgrind-out-file={out}", program]
-        subprocess.run(counted, input=index.text(), capture_output=True, text=True)
+        subprocess.run(counted, input=index.text().encode(), capture_output=True)
+        if not os.path.isfile(out):
+            sys.exit(f"valgrind doesn't run {program}")
         listed = subprocess.run(
             ["callgrind_annotate", "--inclusive=yes", "--threshold=100", out], capture_output=True, text=True
         )
@@ -201,12 +205,13 @@ def measure(about, kinds):
     given = parser.parse_args()
     if not set(given.kinds) <= set(kinds):
         parser.error("there is no such kind")
+    is_program = os.path.isfile(given.program) and os.access(given.program, os.X_OK)
+    if not given.print and not is_program:
+        parser.error(f"there is no {given.program}: `rt run < stdin` in crates/pick_versions builds it")
     chosen = [index for kind in given.kinds or kinds for index in kinds[kind]()]
     if given.print:
         print("\n".join(index.text() for index in chosen), end="")
         return
-    if not os.path.isfile(given.program) or not os.access(given.program, os.X_OK):
-        parser.error(f"there is no {given.program}: `rt run < stdin` in crates/pick_versions builds it")
     if given.share:
         if not shutil.which("valgrind"):
             parser.error("the check's share is counted by valgrind")

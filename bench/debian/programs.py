@@ -24,7 +24,7 @@ class Ran:
 def run(words, text="", limit=None):
     begun = processor_time()
     try:
-        done = subprocess.run(words, input=text, capture_output=True, text=True, timeout=limit)
+        done = subprocess.run(words, input=text, capture_output=True, text=True, errors="replace", timeout=limit)
     except subprocess.TimeoutExpired:
         return Ran("", None, processor_time() - begun)
     except OSError as fault:

@@ -34,7 +34,9 @@ class ClauseStore:
 
     def __init__(self, packages, program=PROGRAM):
         pipe = subprocess.PIPE
-        self._process = subprocess.Popen([str(program)], stdin=pipe, stdout=pipe, encoding="ascii")
+        self._process = subprocess.Popen(
+            [str(program)], stdin=pipe, stdout=pipe, encoding="ascii", errors="backslashreplace"
+        )
         for line in (*packages, "begin"):
             self._give(line)
 

@@ -113,5 +113,7 @@ if __name__ == "__main__":
         main()
     except Ended as fault:
         sys.exit(str(fault))
+    except (LookupError, ValueError) as fault:
+        sys.exit(f"{' '.join(sys.argv[1:]) or PROGRAM} doesn't answer as docs/FORMAT.md says: {fault}")
     except OSError as fault:
         sys.exit(f"{fault.filename}: {fault.strerror}")
