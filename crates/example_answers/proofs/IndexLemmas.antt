@@ -1,11 +1,14 @@
 -- What answers an index.
-use Rattle.std.proofs.Common.{ℕ, List, Result, Ok, Err, refl, inr}
+use Rattle.std.proofs.Common.{◌≡◌, ℕ, List, None, Some, Result, Ok, Err, ap, refl, sym, inl, inr}
 use Rattle.index_text.specs.Index.{IndexText}
 use Rattle.resolvo_pool.specs.Functions.{Provider}
 use Rattle.resolvo_pool.specs.Texts.{Texts}
 use Rattle.example_index.specs.Listed.{AreRead, IsIndex}
+use Rattle.example_index.specs.declared.fault.IndexFault.{IndexFault}
+use Rattle.example_index.specs.declared.fault.IndexFault.TheVariants as Fault
 use Rattle.example_index.specs.declared.index.SmallIndex.{SmallIndex}
-use Rattle.example_answers.specs.Answers.{IsAnswer, IsAnswerOf, OfIndex}
+use Rattle.example_answers.specs.Answers.{AnswersIndex, IsAnswer, IsAnswerOf}
+use Rattle.example_answers.specs.Faults.{IsFault, SaysFault, unreadable_in}
 use Rattle.example_answers.specs.declared.outcome.Outcome.{Outcome}
 use Rattle.example_answers.specs.declared.outcome.Outcome.TheVariants.{Picked, NoSolution, GaveUp, Unreadable, Failed}
 
@@ -13,21 +16,60 @@ use Rattle.example_answers.specs.declared.outcome.Outcome.TheVariants.{Picked, N
 abbrev pub IsSaid : IndexText → SmallIndex → Type 0
 IsSaid said index = IsIndex index said
 
--- what is so of an index that was read is so of the one that is said
-pub of_index : (Says : SmallIndex → Type 0) (index : SmallIndex) (said : Result IndexText ℕ)
-    → AreRead IsSaid said (Ok index) → Says index → OfIndex Says said
-of_index Says index (Ok meant) read says =
-    record { meant = meant; index = index; says_index = refl; is_index = read; says = says }
-of_index Says index (Err number) read says = absurd read
+-- of what was read no line is unreadable
+pub none_unreadable : (said : Result IndexText ℕ) (index : SmallIndex) (outcome : Outcome) → AreRead IsSaid said
+    (Ok index)
+    → None ≡ unreadable_in said outcome
+none_unreadable (Ok meant) index outcome read = refl
+none_unreadable (Err number) index outcome read = absurd read
 
--- what answers an index that was read answers the one that is said
+-- the fault of what wasn't read
+pub read_fault : (said : Result IndexText ℕ) (fault : IndexFault) → AreRead IsSaid said (Err fault) → IsFault said fault
+read_fault (Ok meant) (Fault.Unreadable n) read = absurd read
+read_fault (Err number) (Fault.Unreadable n) read = ap Err (sym read)
+read_fault said (Fault.Refused refused) read = tt
+
+-- where something was refused no line is unreadable
+pub refused_unreadable : (said : Result IndexText ℕ) → None ≡ unreadable_in said GaveUp
+refused_unreadable (Ok meant) = refl
+refused_unreadable (Err number) = refl
+
+-- the number of an unreadable line
+pub line_unreadable : (said : Result IndexText ℕ) (number : ℕ) → said ≡ Err number
+    → Some number ≡ unreadable_in said Unreadable
+line_unreadable said number is = sym (ap (λ (s : Result IndexText ℕ). unreadable_in s Unreadable) is)
+
 module _ {N S : Type 0} (functions : SmallIndex → Provider N S) (texts : SmallIndex → Texts N S) where
-  pub of_read : (said : Result IndexText ℕ) (index : SmallIndex) (outcome : Outcome) (text : List ℕ)
-      → AreRead IsSaid said (Ok index)
+  -- what a search answers to an index
+  pub index_answered : (index : SmallIndex) (outcome : Outcome) (text : List ℕ)
       → IsAnswer (functions index) (texts index) index.request.items outcome text
+      → AnswersIndex functions texts index outcome text
+  index_answered index Picked text says meant is =
+      record { meant = meant; index = index; says_index = refl; is_index = is; says = says }
+  index_answered index NoSolution text says meant is =
+      record { meant = meant; index = index; says_index = refl; is_index = is; says = says }
+  index_answered index GaveUp text says meant is =
+      inr (record { meant = meant; index = index; says_index = refl; is_index = is; says = says })
+  index_answered index Unreadable text says meant is = absurd says
+  index_answered index Failed text says meant is = absurd says
+
+  -- what answers an index that was read answers what is said
+  pub of_read : (said : Result IndexText ℕ) (index : SmallIndex) (outcome : Outcome) (text : List ℕ)
+      → AreRead IsSaid said (Ok index) → AnswersIndex functions texts index outcome text
       → IsAnswerOf functions texts said outcome text
-  of_read said index Picked text read says = of_index _ index said read says
-  of_read said index NoSolution text read says = of_index _ index said read says
-  of_read said index GaveUp text read says = inr (of_index _ index said read says)
-  of_read said index Unreadable text read says = absurd says
-  of_read said index Failed text read says = absurd says
+  of_read (Ok meant) index outcome text read says = says meant read
+  of_read (Err number) index outcome text read says = absurd read
+
+  -- what a fault says answers what has it
+  pub of_fault : (said : Result IndexText ℕ) (fault : IndexFault) (outcome : Outcome) (text : List ℕ)
+      → IsFault said fault → SaysFault fault outcome text → IsAnswerOf functions texts said outcome text
+  of_fault said (Fault.Unreadable n) Unreadable text is says = (n, is, says)
+  of_fault said (Fault.Unreadable n) Picked text is says = absurd says
+  of_fault said (Fault.Unreadable n) NoSolution text is says = absurd says
+  of_fault said (Fault.Unreadable n) GaveUp text is says = absurd says
+  of_fault said (Fault.Unreadable n) Failed text is says = absurd says
+  of_fault said (Fault.Refused refused) GaveUp text is says = inl (refused, says)
+  of_fault said (Fault.Refused refused) Picked text is says = absurd says
+  of_fault said (Fault.Refused refused) NoSolution text is says = absurd says
+  of_fault said (Fault.Refused refused) Unreadable text is says = absurd says
+  of_fault said (Fault.Refused refused) Failed text is says = absurd says

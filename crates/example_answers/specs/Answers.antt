@@ -1,4 +1,4 @@
--- What an index is answered. N are the names, S the solvables.
+-- The answer to an index. N are the names, S the solvables.
 use Rattle.std.specs.Prelude.{◌≡◌, ◌⊎◌, ℕ, All, List, [], ◌∷◌, ◌++◌, Result, Ok, Err, codes, decimal, length, nat_lt}
 use Rattle.std.specs.Prelude.{if◌then◌else◌, take}
 use Rattle.index_text.specs.Index.{IndexText, index_of}
@@ -28,7 +28,7 @@ lines_of text (s ∷ rest) = text s ++ (codes "\n" ++ lines_of text rest)
 abbrev pub header : List ℕ
 header = codes "request:\n"
 
--- a solution without anything spare, and the best by so many of the request's wishes for newest versions
+-- a solution with nothing spare, which is the best one by this number of the request's first wishes for newest versions
 pub record IsPicked {N S : Type 0} (p : Provider N S) (requested : List ConditionalRequirement) (picked : List S)
     (best_up_to : ℕ) : Type 0 where
   pub solution : IsSolution p requested picked
@@ -36,7 +36,7 @@ pub record IsPicked {N S : Type 0} (p : Provider N S) (requested : List Conditio
   pub needed : All (IsNeeded p requested (newest p requested) picked) picked
   pub none_spare : NoneSpare p requested (newest p requested) picked
 
--- by how many of so many wishes what is picked is the best, unless it is by all
+-- the number of first wishes by which what is picked is the best, and that of all wishes; nothing if they are equal
 abbrev pub best_line : ℕ → ℕ → List ℕ
 best_line best_up_to wishes =
     if nat_lt best_up_to wishes
@@ -131,6 +131,10 @@ module _ {N S : Type 0} (functions : SmallIndex → Provider N S) (texts : Small
       SaysRefused text ⊎ OfIndex (λ index. SaysEnding (functions index) (texts index) text) said
   IsAnswerOf said Unreadable text = (number : ℕ) × (said ≡ Err number) × (text ≡ unreadable_text number)
   IsAnswerOf said Failed text = ⊥
+
+  -- the same of an index that was read, whatever it is of
+  abbrev pub AnswersIndex : SmallIndex → Outcome → List ℕ → Type 0
+  AnswersIndex index outcome text = (meant : IndexText) → IsIndex index meant → IsAnswerOf (Ok meant) outcome text
 
   -- the same of an index's lines
   abbrev pub AnswersLines : List NumberedWords → Outcome → List ℕ → Type 0

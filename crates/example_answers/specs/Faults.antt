@@ -1,5 +1,5 @@
 -- Why there is no answer, and what is said of it.
-use Rattle.std.specs.Prelude.{◌≡◌, ℕ, List, Result, Err, ⊤}
+use Rattle.std.specs.Prelude.{◌≡◌, ℕ, List, Option, None, Some, Result, Err, ⊤}
 use Rattle.index_text.specs.Index.{IndexText}
 use Rattle.example_index.specs.declared.fault.IndexFault.{IndexFault}
 use Rattle.example_index.specs.declared.fault.IndexFault.TheVariants.{Unreadable, Refused}
@@ -17,3 +17,8 @@ abbrev pub SaysFault : IndexFault → Outcome → List ℕ → Type 0
 SaysFault (Unreadable number) Is.Unreadable text = text ≡ unreadable_text number
 SaysFault (Refused refused) Is.GaveUp text = text ≡ refused_text refused
 SaysFault _ _ text = ⊥
+
+-- the number of the unreadable line of what is said, if that is the outcome
+abbrev pub unreadable_in : {X : Type 0} → Result X ℕ → Outcome → Option ℕ
+unreadable_in (Err number) Is.Unreadable = Some number
+unreadable_in said outcome = None

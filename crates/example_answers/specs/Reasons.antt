@@ -47,12 +47,15 @@ module _ {N S : Type 0} (universe : Universe N S) (texts : Texts N S) where
       text_of_parent parent
       ++ (codes " needs " ++ (text_of_requirement conditional.requirement ++ text_of_condition conditional.condition))
 
+  abbrev pub text_of_unknown : S → List ℕ
+  text_of_unknown solvable = codes "what " ++ (text_of_solvable solvable ++ codes " needs is unknown")
+
   abbrev pub text_of_reason : Reason N S → List ℕ
   text_of_reason (Needs parent conditional) = text_of_need parent conditional
   text_of_reason (Lacks parent conditional) =
       text_of_need parent conditional ++ codes ", and there is none"
   text_of_reason (Limits solvable set) = text_of_solvable solvable ++ (codes " limits " ++ text_of_set set)
-  text_of_reason (Unknown solvable string) = text_of_solvable solvable ++ codes " needs what can't be told"
+  text_of_reason (Unknown solvable string) = text_of_unknown solvable
   text_of_reason (Excluded solvable string) = text_of_solvable solvable ++ codes " is excluded"
   text_of_reason (Locked solvable) = text_of_solvable solvable ++ codes " is locked"
   text_of_reason (OneVersion name) = codes "one version of " ++ text_of_name name

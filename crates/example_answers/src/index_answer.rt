@@ -1,10 +1,11 @@
 //! An index and its answer.
-ghost use Rattle.std.specs.Prelude.{◌≡◌, [], IfErr, IfOk, map, string_bytes};
-ghost use Rattle.index_text.specs.Index.{index_of};
+ghost use Rattle.std.specs.Prelude.{◌≡◌, ℕ, Result, IfOk, IsErr, None, map, string_bytes};
+ghost use Rattle.index_text.specs.Index.{IndexText, index_of};
 ghost use Rattle.index_text.specs.PlainLines.{plain_line, plain_lines};
-ghost use Rattle.example_answers.specs.Answers.{AnswersLines, AnswersText, IsAnswerOf};
-ghost use Rattle.example_answers.specs.Answers.{first_number, index_of_one, refused_text};
-ghost use Rattle.example_answers.specs.Faults.{IsFault, SaysFault};
+ghost use Rattle.resolvo_pool.specs.Texts.{IsContinued, IsSameText};
+ghost use Rattle.example_answers.specs.Answers.{AnswersIndex, AnswersLines, AnswersText, IsAnswerOf};
+ghost use Rattle.example_answers.specs.Answers.{first_number, index_in, index_of_one, refused_text};
+ghost use Rattle.example_answers.specs.Faults.{IsFault, SaysFault, unreadable_in};
 
 use crate::outcome::Outcome;
 use crate::refusal::words_of;
@@ -22,16 +23,16 @@ pub struct AnswerText {
     pub text: String,
     /// The number of the line that can't be read, if that is why there is no answer.
     pub unreadable: Option<u64>,
-    /// What is noteworthy of an index that was read, a line each: version sets that no version is in.
-    pub notes: String,
 }
 
 /// Answers the index of a text, in no more steps than these. A text without an index is unreadable at its first line,
 /// one that has several at the line where the second begins.
 pub fn answer_text(alloc: Global, text: &[u8], steps: u64) -> Result<AnswerText, AllocError>
-    ensures { IfOk result (λ answered. AnswersText
+    ensures answers { IfOk result (λ answered. AnswersText
         ⟦<SmallIndex as ProviderFunctions>⟧.functions ⟦<SmallIndex as Interner>⟧.texts text.now
         answered.outcome (string_bytes answered.text)) }
+    ensures unreadable { IfOk result (λ answered. answered.unreadable ≡
+        unreadable_in (index_in text.now) answered.outcome) }
 {
     match index_text::split(alloc, text) {
         Ok(indexes) => answer_one(alloc, &indexes, steps),
@@ -39,7 +40,6 @@ pub fn answer_text(alloc: Global, text: &[u8], steps: u64) -> Result<AnswerText,
             outcome: Outcome::GaveUp,
             text: refused_text(alloc, StoreError::OutOfMemory)?,
             unreadable: None,
-            notes: String::new(alloc),
         }),
     }
 }
@@ -50,10 +50,12 @@ fn answer_one(
     indexes: &[Vec<Line<'_>>],
     steps: u64,
 ) -> Result<AnswerText, AllocError>
-    ensures { IfOk result (λ answered. IsAnswerOf
+    ensures answers { IfOk result (λ answered. IsAnswerOf
         ⟦<SmallIndex as ProviderFunctions>⟧.functions ⟦<SmallIndex as Interner>⟧.texts
         (index_of_one (map plain_lines indexes.now))
         answered.outcome (string_bytes answered.text)) }
+    ensures unreadable { IfOk result (λ answered. answered.unreadable ≡
+        unreadable_in (index_of_one (map plain_lines indexes.now)) answered.outcome) }
 {
     match indexes {
         [] => answer_fault(alloc, IndexFault::Unreadable(1)),
@@ -74,39 +76,77 @@ fn first_number(lines: &[Line<'_>]) -> u64
 
 /// Answers the index of these lines, in no more steps than these.
 pub fn answer(alloc: Global, lines: &[Line<'_>], steps: u64) -> Result<AnswerText, AllocError>
-    ensures { IfOk result (λ answered. AnswersLines
+    ensures answers { IfOk result (λ answered. AnswersLines
         ⟦<SmallIndex as ProviderFunctions>⟧.functions ⟦<SmallIndex as Interner>⟧.texts (map plain_line lines.now)
         answered.outcome (string_bytes answered.text)) }
+    ensures unreadable { IfOk result (λ answered. answered.unreadable ≡
+        unreadable_in (index_of (map plain_line lines.now)) answered.outcome) }
+{
+    match example_index::read(alloc, lines) {
+        Ok(index) => answer_index(alloc, &index, steps),
+        Err(fault) => answer_fault(alloc, fault),
+    }
+}
+
+/// The same; and if there is an index, it appends notes on it, a line each, as far as there is memory: version sets
+/// that no version is in.
+pub fn answer_with_notes(
+    alloc: Global,
+    lines: &[Line<'_>],
+    steps: u64,
+    notes: &mut String,
+) -> Result<AnswerText, AllocError>
+    ensures answers { IfOk result (λ answered. AnswersLines
+        ⟦<SmallIndex as ProviderFunctions>⟧.functions ⟦<SmallIndex as Interner>⟧.texts (map plain_line lines.now)
+        answered.outcome (string_bytes answered.text)) }
+    ensures unreadable { IfOk result (λ answered. answered.unreadable ≡
+        unreadable_in (index_of (map plain_line lines.now)) answered.outcome) }
+    ensures notes { IsContinued notes.old notes.new }
+    ensures unread { IsErr (index_of (map plain_line lines.now)) → IsSameText notes.old notes.new }
+{
+    match example_index::read(alloc, lines) {
+        Ok(index) => {
+            write_notes(alloc, &index, notes);
+            answer_index(alloc, &index, steps)
+        }
+        Err(fault) => answer_fault(alloc, fault),
+    }
+}
+
+/// Answers the request of an index.
+fn answer_index(alloc: Global, index: &SmallIndex, steps: u64) -> Result<AnswerText, AllocError>
+    ensures answers { IfOk result (λ answered. AnswersIndex
+        ⟦<SmallIndex as ProviderFunctions>⟧.functions ⟦<SmallIndex as Interner>⟧.texts index.now
+        answered.outcome (string_bytes answered.text)) }
+    ensures unreadable { IfOk result (λ answered. answered.unreadable ≡ None) }
 {
     let mut text = String::new(alloc);
-    let mut notes = String::new(alloc);
-    match write_index_answer(alloc, lines, steps, &mut text, &mut notes) {
+    match write_answer(alloc, index, index.request(), steps, &mut text) {
         Ok(outcome) => Ok(AnswerText {
             outcome,
             text,
             unreadable: None,
-            notes,
         }),
-        Err(fault) => answer_fault(alloc, fault),
+        Err(refused) => answer_fault(alloc, IndexFault::Refused(refused)),
     }
 }
 
 /// Says why there is no answer.
 fn answer_fault(alloc: Global, fault: IndexFault) -> Result<AnswerText, AllocError>
-    ensures { IfOk result (λ answered. SaysFault fault answered.outcome (string_bytes answered.text)) }
+    ensures says { IfOk result (λ answered. SaysFault fault answered.outcome (string_bytes answered.text)) }
+    ensures unreadable { IfOk result (λ answered. (said : Result IndexText ℕ) → IsFault said fault →
+        answered.unreadable ≡ unreadable_in said answered.outcome) }
 {
     match fault {
         IndexFault::Unreadable(number) => Ok(AnswerText {
             outcome: Outcome::Unreadable,
             text: format!(in alloc; "line {number} unreadable\n")?,
             unreadable: Some(number),
-            notes: String::new(alloc),
         }),
         IndexFault::Refused(refused) => Ok(AnswerText {
             outcome: Outcome::GaveUp,
             text: refused_text(alloc, refused)?,
             unreadable: None,
-            notes: String::new(alloc),
         }),
     }
 }
@@ -119,30 +159,10 @@ fn refused_text(alloc: Global, refused: StoreError) -> Result<String, AllocError
     format!(in alloc; "gave up: {words}\n")
 }
 
-/// Reads an index, and writes the answer to its request to a text that is empty so far, and what is noteworthy of it to
-/// another one.
-fn write_index_answer(
-    alloc: Global,
-    lines: &[Line<'_>],
-    steps: u64,
-    text: &mut String,
-    notes: &mut String,
-) -> Result<Outcome, IndexFault>
-    requires { string_bytes text.old ≡ [] }
-    ensures ok { IfOk result (λ outcome. AnswersLines
-        ⟦<SmallIndex as ProviderFunctions>⟧.functions ⟦<SmallIndex as Interner>⟧.texts (map plain_line lines.now)
-        outcome (string_bytes text.new)) }
-    ensures err { IfErr result (IsFault (index_of (map plain_line lines.now))) }
+/// Appends notes on an index, as far as there is memory.
+fn write_notes(alloc: Global, index: &SmallIndex, notes: &mut String)
+    ensures { IsContinued notes.old notes.new }
 {
-    let index = example_index::read(alloc, lines)?;
-    let outcome = write_answer(alloc, &index, index.request(), steps, text);
-    write_notes(alloc, &index, notes);
-    drop(index);
-    Ok(outcome?)
-}
-
-/// Writes what is noteworthy of an index, as far as there is memory.
-fn write_notes(alloc: Global, index: &SmallIndex, notes: &mut String) {
     if let Ok(sets) = index.empty_sets(alloc) {
         let _ = index.write_notes(alloc, &sets, notes);
     }

@@ -9,6 +9,7 @@ use crate::in_turn::print_in_turn;
 use crate::index_answer::{AnswerText, answer};
 use crate::outcome::Outcome;
 use crate::print_fault::PrintFault;
+use crate::printer::Printer;
 use example_index::SmallIndex;
 use index_text::Line;
 use resolvo_pool::{Interner, ProviderFunctions};
@@ -29,20 +30,20 @@ impl Answering for Search {
     }
 }
 
-/// Answers each index of an input in turn, each in no more steps than these, and prints the answers, with an empty line
-/// before each but the first of all. The worst outcome. If it ends early, nothing is said of `is_first`.
+/// Answers each index of an input in turn, each in no more steps than these, and prints the answers. Its own answer is
+/// the worst outcome.
 pub fn answer_all<W: Sink>(
     alloc: Global,
     input: &[u8],
     steps: u64,
-    is_first: &mut bool,
-    writer: &mut W,
+    printer: &mut Printer<W>,
 ) -> Result<Outcome, PrintFault>
     ensures prints { Prints
         (AnswersLines ⟦<SmallIndex as ProviderFunctions>⟧.functions ⟦<SmallIndex as Interner>⟧.texts)
-        is_first.old (indexes_of input.now) (W.contents writer.old) result (W.contents writer.new) }
-    ensures first { OnOk result (is_first.new ≡ is_first_after is_first.old (indexes_of input.now)) }
-    ensures ends { PrintingEnds W.writes W.fails writer.old result writer.new }
+        printer.old.is_first (indexes_of input.now)
+        (W.contents printer.old.writer) result (W.contents printer.new.writer) }
+    ensures first { OnOk result (printer.new.is_first ≡ is_first_after printer.old.is_first (indexes_of input.now)) }
+    ensures ends { PrintingEnds W.writes W.fails printer.old.writer result printer.new.writer }
 {
-    print_in_turn(alloc, input, &mut Search { steps }, is_first, writer)
+    print_in_turn(alloc, input, &mut Search { steps }, printer)
 }

@@ -1,4 +1,4 @@
-//! What an index is answered, as a text: for the program `pick_versions` and the library `picking_c`.
+//! The answer to an index, as a text: for the program `pick_versions` and the library `picking_c`.
 //!
 //! [`answer_text`] reads the index of a text, and searches by `picking` for what it requests. The answer has the line
 //! `request:`, and below it a line for each version that is picked, or `none` if there is no solution, and why
@@ -7,9 +7,10 @@
 //!
 //! All of that is proved of the text of the answer, for the text of the index: what is picked is the best solution of
 //! what the index's lines say, after `none` there is no solution, and a line that is called unreadable is
-//! (`specs/Answers`; `specs/Reasons` has a reason's line). That the reasons are those is not proved.
+//! (`specs/Answers`; `specs/Reasons` has a reason's line). That the reasons are true is not proved.
 //!
-//! [`answer_all`] prints the answers of all indexes of an input, in turn (`specs/Printed`).
+//! [`answer_with_notes`] also notes version sets that no version is in. [`answer_all`] prints the answers of all
+//! indexes of an input, in turn (`specs/Printed`).
 #![tactic(auto)]
 
 mod answering;
@@ -18,6 +19,7 @@ mod index_answer;
 mod input_answers;
 mod outcome;
 mod print_fault;
+mod printer;
 mod reasons;
 mod refusal;
 mod writing;
@@ -25,7 +27,8 @@ mod writing_bytes;
 
 pub use answering::Answering;
 pub use in_turn::print_in_turn;
-pub use index_answer::{AnswerText, answer, answer_text};
+pub use index_answer::{AnswerText, answer, answer_text, answer_with_notes};
 pub use input_answers::answer_all;
 pub use outcome::Outcome;
 pub use print_fault::PrintFault;
+pub use printer::Printer;

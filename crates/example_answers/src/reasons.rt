@@ -4,7 +4,7 @@ ghost use Rattle.resolvo_pool.specs.Texts.{IsAppended};
 ghost use Rattle.example_answers.specs.Answers.{lines_of};
 ghost use Rattle.example_answers.specs.Reasons.{text_of_name, text_of_solvable, text_of_requirement, text_of_set};
 ghost use Rattle.example_answers.specs.Reasons.{text_of_parts, text_of_condition, text_of_parent, text_of_need};
-ghost use Rattle.example_answers.specs.Reasons.{text_of_reason};
+ghost use Rattle.example_answers.specs.Reasons.{text_of_reason, text_of_unknown};
 
 use picking::Reason;
 use resolvo_ids::{ConditionId, StoreError, VersionSetId};
@@ -48,10 +48,7 @@ fn write_reason<I: Interner>(
             text.push_str(" limits ")?;
             write_set(interner, set, text)
         }
-        Reason::Unknown(solvable, _) => {
-            write_solvable(interner, solvable, text)?;
-            Ok(text.push_str(" needs what can't be told")?)
-        }
+        Reason::Unknown(solvable, _) => write_unknown(interner, solvable, text),
         Reason::Excluded(solvable, _) => {
             write_solvable(interner, solvable, text)?;
             Ok(text.push_str(" is excluded")?)
@@ -65,6 +62,20 @@ fn write_reason<I: Interner>(
             write_name(interner, name, text)
         }
     }
+}
+
+/// Appends that it is unknown what a solvable needs.
+fn write_unknown<I: Interner>(
+    interner: &I,
+    solvable: I::SolvableId,
+    text: &mut String<I::Alloc>,
+) -> Done
+    ensures { OnOk result (IsAppended text.old text.new
+        (text_of_unknown (I.universe interner.now) (I.texts interner.now) solvable)) }
+{
+    text.push_str("what ")?;
+    write_solvable(interner, solvable, text)?;
+    Ok(text.push_str(" needs is unknown")?)
 }
 
 /// Appends who needs what.

@@ -6,7 +6,7 @@ use Rattle.std.proofs.lemmas.List.{at_drop_more, take_all}
 use Rattle.index_text.specs.Index.{IndexText, versions_of, with_request, with_version, or_fault}
 use Rattle.index_text.specs.Indexes.{NumberedWords}
 use Rattle.index_text.specs.Lines.{VersionText, version_said}
-use Rattle.index_text.specs.Orders.{Order}
+use Rattle.index_text.specs.Formats.{VersionFormat}
 use Rattle.index_text.specs.PlainLines.{plain_line}
 use Rattle.index_text.specs.declared.line.Line.{Line}
 use Rattle.std.specs.List.{AllZip}
@@ -21,12 +21,12 @@ use Rattle.example_index.specs.declared.range.VersionRange.{VersionRange}
 use Rattle.example_index.specs.declared.fault.IndexFault.{IndexFault}
 use Rattle.example_index.specs.declared.fault.IndexFault.TheVariants.{Unreadable, Refused}
 
-module _ (order : Order) (K : List VersionText → Type 0) (number : ℕ) (rest : List NumberedWords)
+module _ (format : VersionFormat) (K : List VersionText → Type 0) (number : ℕ) (rest : List NumberedWords)
     (all : Result (List VersionText) ℕ) where
   -- a line that was added leaves the others
   pub line_added : (o : Option (List VersionText)) (done : ⊤) → IsLineAdded K o number (Ok done)
-      → or_fault number (λ more. versions_of order more rest) o ≡ all → (more : List VersionText) × K more ×
-      (versions_of order more rest ≡ all)
+      → or_fault number (λ more. versions_of format more rest) o ≡ all → (more : List VersionText) × K more ×
+      (versions_of format more rest ≡ all)
   line_added None done h is = absurd h
   line_added (Some more) done h is = (more, h, is)
 
@@ -44,21 +44,21 @@ fault_read IsSo number None K (Err n) (Refused e) h is = tt
 fault_read IsSo number (Some more) K (Err n) (Refused e) h is = tt
 
 -- what lines say from a place on begins with what the line there says
-pub versions_step : (order : Order) (lines : List Line) (i : ℕ) (line : Line) → i < length lines → line ≡ slice_index_or lines i line
+pub versions_step : (format : VersionFormat) (lines : List Line) (i : ℕ) (line : Line) → i < length lines → line ≡ slice_index_or lines i line
     → (versions : List VersionText) (all : Result (List VersionText) ℕ)
-    → versions_of order versions (map plain_line (drop i lines)) ≡ all
-    → or_fault line.number (λ more. versions_of order more (map plain_line (drop (i + 1) lines)))
-    (option_and_then (with_version versions) (option_and_then (version_said order) (plain_line line).words)) ≡ all
-versions_step order lines i line here is versions all so_far =
-    sym (at_drop_more (λ rest. versions_of order versions (map plain_line rest)) lines i line here
-    ∙ ap (λ l. versions_of order versions (plain_line l ∷ map plain_line (drop (i + 1) lines))) (sym is)) ∙ so_far
+    → versions_of format versions (map plain_line (drop i lines)) ≡ all
+    → or_fault line.number (λ more. versions_of format more (map plain_line (drop (i + 1) lines)))
+    (option_and_then (with_version versions) (option_and_then (version_said format) (plain_line line).words)) ≡ all
+versions_step format lines i line here is versions all so_far =
+    sym (at_drop_more (λ rest. versions_of format versions (map plain_line rest)) lines i line here
+    ∙ ap (λ l. versions_of format versions (plain_line l ∷ map plain_line (drop (i + 1) lines))) (sym is)) ∙ so_far
 
 -- a request, and then the versions
-module _ {T : Type 0} (order : Order) (P : IndexText → T → Type 0) (Q : List VersionText → T → Type 0) (entries : List EntryText)
+module _ {T : Type 0} (format : VersionFormat) (P : IndexText → T → Type 0) (Q : List VersionText → T → Type 0) (entries : List EntryText)
     (each : (versions : List VersionText) (done : T) → Q versions done → P
-    (record { order = order; request = entries; versions = versions }) done) where
+    (record { format = format; request = entries; versions = versions }) done) where
   pub request_read : (versions : Result (List VersionText) ℕ) (result : Result T IndexFault) → AreRead Q versions result
-      → AreRead P (with_request order entries versions) result
+      → AreRead P (with_request format entries versions) result
   request_read (Ok versions) (Ok done) h = each versions done h
   request_read (Ok versions) (Err (Unreadable n)) h = h
   request_read (Ok versions) (Err (Refused e)) h = tt

@@ -1,10 +1,9 @@
 -- Places of lists: which are so, and what stands at them after a change.
-use Rattle.std.proofs.Common.{◌≡◌, ◌∙◌, ◌⊎◌, inl, inr, ℕ, zero, suc, ◌<◌, Bool, true, false, ◌&&◌, ◌||◌, if◌then◌else◌}
+use Rattle.std.proofs.Common.{◌≡◌, ◌⊎◌, inl, inr, ℕ, zero, suc, ◌<◌, Bool, false, if◌then◌else◌}
 use Rattle.std.proofs.Common.{List, [], ◌∷◌, ◌++◌, length, Option, None, Some, arith, refl, ap, ap₂, sym, subst}
 use Rattle.std.specs.Prelude.{◌==◌, slice_get, slice_set}
-use Rattle.std.specs.List.{AllZip, list_any}
+use Rattle.std.specs.List.{AllZip}
 use Rattle.std.proofs.lemmas.Bool.Decides.{nat_tests}
-use Rattle.std.proofs.lemmas.List.Folds.{list_any-append}
 use Rattle.std.proofs.lemmas.Slice.Zip.{AllZip-long}
 use Rattle.example_index.specs.Index.{versions_of, favored_of, locked_of, excluded_of}
 use Rattle.example_index.specs.Listed.{places_where, last_where}
@@ -24,52 +23,6 @@ last_same f g (suc n) same =
     let top : n < suc n = omega arith in
     ap₂ (λ (b : Bool) (last : Option ℕ). if b then Some n else last) (same n top)
     (last_same f g n (λ s below. same s (omega arith)))
-
--- one of the places below this number is so
-abbrev pub any_below : (ℕ → Bool) → ℕ → Bool
-any_below f zero = false
-any_below f (suc n) = any_below f n || f n
-
-pub any_same : (f g : ℕ → Bool) (n : ℕ) → ((s : ℕ) → s < n → f s ≡ g s) → any_below f n ≡ any_below g n
-any_same f g zero same = refl
-any_same f g (suc n) same =
-    let top : n < suc n = omega arith in
-    ap₂ (λ (a b : Bool). a || b) (any_same f g n (λ s below. same s (omega arith))) (same n top)
-
-or_false : (b : Bool) → (b || false) ≡ b
-or_false true = refl
-or_false false = refl
-
-or_assoc : (a b c : Bool) → ((a || b) || c) ≡ (a || (b || c))
-or_assoc true b c = refl
-or_assoc false b c = refl
-
--- a place is added if it is so
-any_added : (g : ℕ → Bool) (b : Bool) (places : List ℕ) (n : ℕ)
-    → list_any g (if b then places ++ n ∷ [] else places) ≡ (list_any g places || (b && g n))
-any_added g true places n = list_any-append g places (n ∷ []) ∙ ap (λ c. list_any g places || c) (or_false (g n))
-any_added g false places n = sym (or_false (list_any g places))
-
-pub any_places : (f g : ℕ → Bool) (n : ℕ) → list_any g (places_where f n) ≡ any_below (λ s. f s && g s) n
-any_places f g zero = refl
-any_places f g (suc n) = any_added g (f n) (places_where f n) n ∙ ap (λ b. b || (f n && g n)) (any_places f g n)
-
--- the lowest place first
-any_shifted : (f : ℕ → Bool) (n : ℕ) → any_below f (suc n) ≡ (f 0 || any_below (λ s. f (suc s)) n)
-any_shifted f zero = sym (or_false (f 0))
-any_shifted f (suc n) =
-    ap (λ b. b || f (suc n)) (any_shifted f n) ∙ or_assoc (f 0) (any_below (λ s. f (suc s)) n) (f (suc n))
-
--- there is a value, and it is so
-abbrev pub is_here : {X : Type 0} → (X → Bool) → Option X → Bool
-is_here p None = false
-is_here p (Some x) = p x
-
-pub any_list : {X : Type 0} (p : X → Bool) (xs : List X)
-    → any_below (λ s. is_here p (slice_get xs s)) (length xs) ≡ list_any p xs
-any_list p [] = refl
-any_list p (x ∷ xs) =
-    any_shifted (λ s. is_here p (slice_get (x ∷ xs) s)) (length xs) ∙ ap (λ b. p x || b) (any_list p xs)
 
 -- ---- one value changed, or pushed
 pub get_set_same : {X : Type 0} (xs : List X) (n : ℕ) (x : X) → n < length xs → slice_get (slice_set xs n x) n ≡ Some x
@@ -117,8 +70,6 @@ zip_at R (a ∷ xs) (b ∷ ys) h zero y at =
     let is : b ≡ y = cc in
     (a, refl, subst (λ z. R a z) is h.0)
 zip_at R (a ∷ xs) (b ∷ ys) h (suc s) y at = zip_at R xs ys h.1 s y at
-
--- ---- names that stand once
 
 -- ---- packages
 -- all that is answered of a name stays, where a package without versions is pushed

@@ -2,7 +2,7 @@
 use Rattle.std.specs.Prelude.{◌≡◌, ℕ, ◌++◌, ◌==◌, Bool, true, ◌&&◌, All, nat_le, nat_lt, List, [], Option, None, Some}
 use Rattle.std.specs.Prelude.{length, slice_get, unwrap_or, option_map, filter, codes}
 use Rattle.std.proofs.lemmas.List.Elements.{All-filter, filter_passes}
-use Rattle.index_text.specs.Orders.{Order, version_text}
+use Rattle.index_text.specs.Formats.{VersionFormat, version_text}
 use Rattle.resolvo_ids.specs.Types.StringId.{StringId}
 use Rattle.resolvo_ids.specs.Types.VersionSetId.{VersionSetId}
 use Rattle.resolvo_pool.specs.Dependencies.{Needs, Known, needs_of}
@@ -14,8 +14,8 @@ use Rattle.example_index.specs.declared.packages.Package.{Package}
 use Rattle.example_index.specs.declared.range.VersionRange.{VersionRange}
 
 -- as 1..3
-abbrev pub range_text : Order → VersionRange → List ℕ
-range_text order range = version_text order range.low ++ (codes ".." ++ version_text order range.high)
+abbrev pub range_text : VersionFormat → VersionRange → List ℕ
+range_text format range = version_text format range.low ++ (codes ".." ++ version_text format range.high)
 
 abbrev pub is_within : VersionRange → ℕ → Bool
 is_within range version = nat_le range.low version && nat_lt version range.high

@@ -14,8 +14,8 @@ use Rattle.example_index.specs.declared.range.VersionRange.{VersionRange}
 use Rattle.index_text.specs.Entries.{EntryText, Favored, Locked}
 use Rattle.index_text.specs.Index.{IndexText}
 use Rattle.index_text.specs.Lines.{VersionText, VersionIs, Offered, Excluded}
-use Rattle.index_text.specs.Orders.{Order}
-use Rattle.index_text.specs.PlainOrders.{plain_order}
+use Rattle.index_text.specs.Formats.{VersionFormat}
+use Rattle.index_text.specs.PlainFormats.{plain_format}
 use Rattle.resolvo_ids.specs.Types.StringId.{StringId}
 use Rattle.resolvo_pool.specs.Dependencies.{Needs, needs_of}
 use Rattle.resolvo_pool.specs.Pool.{Lists}
@@ -111,14 +111,14 @@ abbrev pub IsOf : SmallIndex → List VersionText → Type 0
 IsOf index versions = IsKept (with_bytes index.pool) index.packages.items (map needs_of index.needs.items) versions
 
 -- what an index has is what lines say whose versions are written so
-pub record IsRead (order : Order) (index : SmallIndex) (said : IndexText) : Type 0 where
-  pub order_is : said.order ≡ order
+pub record IsRead (format : VersionFormat) (index : SmallIndex) (said : IndexText) : Type 0 where
+  pub format_is : said.format ≡ format
   pub request : AllZip (IsNeed (with_bytes index.pool)) index.request.items (needs_in said.request)
   pub versions : IsOf index said.versions
 
 -- what an index answers is what the lines of a text say
 abbrev pub IsIndex : SmallIndex → IndexText → Type 0
-IsIndex index said = IsRead (plain_order index.order) index said
+IsIndex index said = IsRead (plain_format index.format) index said
 
 -- what was read is so; or the first unreadable line is that of the fault
 abbrev pub AreRead : {X T : Type 0} → (X → T → Type 0) → Result X ℕ → Result T IndexFault → Type 0

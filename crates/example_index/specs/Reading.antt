@@ -3,11 +3,16 @@ use Rattle.std.specs.Prelude.{◌≡◌, ℕ, Bool, true, false, List, Option, N
 use Rattle.std.specs.List.{AllZip}
 use Rattle.index_text.specs.Entries.{EntryText}
 use Rattle.index_text.specs.Lines.{VersionText}
+use Rattle.resolvo_pool.specs.Types.Solvable.{Solvable}
 use Rattle.example_index.specs.Listed.{with_bytes}
 use Rattle.example_index.specs.Meaning.{IsNeed, needs_in}
 use Rattle.example_index.specs.declared.fault.IndexFault.{IndexFault}
 use Rattle.example_index.specs.declared.fault.IndexFault.TheVariants.{Unreadable, Refused}
 use Rattle.example_index.specs.declared.index.SmallIndex.{SmallIndex}
+
+-- a version by its name's id and its number
+abbrev pub numbered : Solvable ℕ → ℕ × ℕ
+numbered s = (s.name, s.payload)
 
 -- the lines with one more, if it is no line of the same version as another, and whether it was added
 abbrev pub IsAdded : (List VersionText → Type 0) → Option (List VersionText) → Bool → Type 0

@@ -10,7 +10,7 @@ ghost use Rattle.example_index.specs.Index.{here, of_name, is_within, version_in
 
 use crate::packages::Package;
 use crate::range::VersionRange;
-use index_text::Order;
+use index_text::VersionFormat;
 use resolvo_ids::{
     ConditionId, DenseIndex, NameId, SolvableId, StoreError, StringId, VersionSetId,
     VersionSetUnionId,
@@ -27,7 +27,7 @@ pub struct SmallIndex {
     /// What the text's words are copied with.
     pub(crate) alloc: Global,
     /// How versions are written. The pool has a number for each.
-    pub(crate) order: Order,
+    pub(crate) format: VersionFormat,
     /// Names, versions, ranges, conditions and the reasons of exclusions, each by its id.
     pub(crate) pool: Pool<VersionRange>,
     /// Each package, at its name's place.
@@ -49,7 +49,7 @@ impl SmallIndex {
     {
         SmallIndex {
             alloc,
-            order: Order::Numbers,
+            format: VersionFormat::Numbers,
             pool: Pool::new(alloc),
             packages: Vec::new(alloc),
             needs: Vec::new(alloc),
@@ -69,8 +69,8 @@ impl SmallIndex {
 impl Interner for SmallIndex {
     ghost use Rattle.resolvo_pool.specs.PoolIds.{universe_in, texts_in};
     ghost use Rattle.resolvo_pool.specs.PoolLaws.{pool_solvable_names, pool_set_names, pool_union_sets, pool_operands};
-    ghost use Rattle.index_text.specs.Orders.{version_text};
-    ghost use Rattle.index_text.specs.PlainOrders.{plain_order};
+    ghost use Rattle.index_text.specs.Formats.{version_text};
+    ghost use Rattle.index_text.specs.PlainFormats.{plain_format};
     ghost use Rattle.example_index.specs.Index.{range_text};
 
     type Alloc = Global;
@@ -82,7 +82,7 @@ impl Interner for SmallIndex {
     ghost universe = { λ index. universe_in index.pool };
 
     ghost texts = { λ index. texts_in index.pool string_bytes
-        (range_text (plain_order index.order)) (version_text (plain_order index.order)) };
+        (range_text (plain_format index.format)) (version_text (plain_format index.format)) };
 
     ghost solvable_names_known = { λ index. pool_solvable_names index.pool index.of_itself };
 
@@ -137,7 +137,7 @@ impl Interner for SmallIndex {
         let mut text = String::new(*out.allocator());
         text.push_str(self.pool.resolve_package_name(solvable.name))?;
         text.push(' ')?;
-        self.order.write(solvable.payload, &mut text)?;
+        self.format.write(solvable.payload, &mut text)?;
         append(out, &text)
     }
 
@@ -148,9 +148,9 @@ impl Interner for SmallIndex {
     fn display_version_set(&self, set: VersionSetId, out: &mut String) -> Result<(), StoreError> {
         let range = *self.pool.resolve_version_set(set);
         let mut text = String::new(*out.allocator());
-        self.order.write(range.low, &mut text)?;
+        self.format.write(range.low, &mut text)?;
         text.push_str("..")?;
-        self.order.write(range.high, &mut text)?;
+        self.format.write(range.high, &mut text)?;
         append(out, &text)
     }
 

@@ -1,6 +1,6 @@
 //! Notes on an index: version sets that no version is in.
-ghost use Rattle.std.specs.Prelude.{◌≡◌, ◌<◌, All, ◌≤◌, IfOk, OnOk, MatchOption, length, map};
-ghost use Rattle.resolvo_pool.specs.Texts.{IsContinued};
+ghost use Rattle.std.specs.Prelude.{◌≡◌, ◌<◌, [], All, ◌≤◌, IfOk, MatchOption, length, map};
+ghost use Rattle.resolvo_pool.specs.Texts.{IsContinued, IsSameText};
 ghost use Rattle.example_index.specs.Index.{here, of_name};
 ghost use Rattle.example_index.specs.Listed.{places_where};
 ghost use Rattle.example_index.specs.Notes.{has_within, is_empty_at, is_empty_set};
@@ -66,8 +66,8 @@ impl SmallIndex {
         }
     }
 
-    /// Appends a line for each of these version sets without a candidate, for twenty at most, and how many more there
-    /// are. A package without versions is named once.
+    /// Appends a line for each of these version sets without a candidate, for twenty at most, and how many more sets
+    /// there are. A package without versions is named once.
     #[tactic(auto, using(crate::proofs::NoteLemmas::continued_none, crate::proofs::NoteLemmas::continued_more))]
     pub fn write_notes(
         &self,
@@ -76,14 +76,15 @@ impl SmallIndex {
         text: &mut String,
     ) -> Result<(), StoreError>
         requires { All (λ set. set.0 < length self.now.pool.version_sets) sets.now }
-        ensures { OnOk result (IsContinued text.old text.new) }
+        ensures appends { IsContinued text.old text.new }
+        ensures none { sets.now ≡ [] → IsSameText text.old text.new }
     {
         let mut told = Vec::new(alloc);
         let mut notes = 0;
         for (i, set) in sets.iter().enumerate() {
             if notes == NOTES {
                 let more = sets.len() - i;
-                text.push_str(&format!(in alloc; "and {more} more\n")?)?;
+                text.push_str(&format!(in alloc; "and {more} more version sets\n")?)?;
                 return Ok(());
             }
             if let Some(note) = self.note(alloc, *set, &mut told)? {
@@ -94,7 +95,7 @@ impl SmallIndex {
         Ok(())
     }
 
-    /// What is said of a version set without a candidate; none if that its package has no versions was told before.
+    /// What is said of a version set without a candidate; none if it was noted before that its package has no versions.
     fn note(
         &self,
         alloc: Global,
@@ -111,7 +112,7 @@ impl SmallIndex {
                 return Ok(None);
             }
             told.push(id)?;
-            return Ok(Some(format!(in alloc; "no line has a package {name}\n")?));
+            return Ok(Some(format!(in alloc; "no line has the package {name}\n")?));
         }
         let mut range = String::new(alloc);
         self.display_version_set(set, &mut range)?;
@@ -144,7 +145,7 @@ impl SmallIndex {
             }
             if self.pool.knows_solvable(*solvable) {
                 let version = self.pool.resolve_solvable(*solvable).payload;
-                self.order.write(version, &mut text)?;
+                self.format.write(version, &mut text)?;
             }
         }
         Ok(text)

@@ -1,27 +1,29 @@
 //! The reader of an index.
-ghost use Rattle.std.specs.Prelude.{◌≡◌, ◌<◌, ◌^◌, ◌++◌, ◌∷◌, ◌&&◌, ◌==◌, [], false, nat_lt, ℕ, List, IfOk, OnOk};
+ghost use Rattle.std.specs.Prelude.{◌≡◌, ◌<◌, ◌^◌, ◌++◌, ◌∷◌, ◌==◌, [], false, ℕ, List, IfOk, OnOk};
 ghost use Rattle.std.specs.Prelude.{length, map, option_and_then, slice_get};
-ghost use Rattle.std.specs.List.{list_any};
-ghost use Rattle.index_text.specs.Index.{index_of, index_in_order, versions_of, with_version};
+ghost use Rattle.index_text.specs.Index.{index_of, index_in_format, versions_of, with_version};
 ghost use Rattle.index_text.specs.Lines.{VersionText, request_said, version_said};
 ghost use Rattle.index_text.specs.Plain.{plain_version};
 ghost use Rattle.index_text.specs.PlainLines.{plain_line};
-ghost use Rattle.index_text.specs.PlainOrders.{plain_order};
+ghost use Rattle.index_text.specs.PlainFormats.{plain_format};
 ghost use Rattle.resolvo_pool.specs.Pool.{IsLater};
-ghost use Rattle.example_index.specs.Index.{version_in};
 ghost use Rattle.example_index.specs.Listed.{AreRead, IsIndex, IsRead, IsOf, with_bytes};
-ghost use Rattle.example_index.specs.Reading.{IsAdded, IsLineAdded, IsRequestAdded};
+ghost use Rattle.example_index.specs.Reading.{IsAdded, IsLineAdded, IsRequestAdded, numbered};
 ghost use Rattle.example_index.specs.Meaning.{IsNamed};
 ghost use Rattle.example_index.specs.Package.{IsSame, IsWith};
 
 use crate::fault::IndexFault;
 use crate::index::SmallIndex;
-use crate::interning::{Ids, intern_name};
+use crate::interning::intern_name;
 use crate::packages::{Entries, Package};
 use crate::states::{intern_entries, intern_state};
 use index_text::{Line, Reader, Version};
+use indexmap::IndexSet;
 use resolvo_ids::{DenseIndex, NameId, SolvableId, StoreError};
 use std::alloc::Global;
+
+/// The versions that lines said so far, each by the id of its name and its number.
+type Known = IndexSet<(NameId, u32)>;
 
 /// Reads the index of these lines: the request, and then a version in each line.
 pub fn read(alloc: Global, lines: &[Line<'_>]) -> Result<SmallIndex, IndexFault>
@@ -31,7 +33,7 @@ pub fn read(alloc: Global, lines: &[Line<'_>]) -> Result<SmallIndex, IndexFault>
     let mut index = SmallIndex::new(alloc);
     match index.add_lines(&mut reader, lines) {
         Ok(()) => {
-            index.order = reader.into_order();
+            index.format = reader.into_format();
             Ok(index)
         }
         Err(fault) => {
@@ -48,10 +50,11 @@ impl SmallIndex {
         reader: &mut Reader<'t>,
         lines: &[Line<'t>],
     ) -> Result<(), IndexFault>
+        requires { self.old.pool.solvables ≡ [] }
         ensures are { IsOf self.old [] →
-            AreRead (λ said done. IsRead (plain_order reader.old.order) self.new said)
-            (index_in_order (plain_order reader.old.order) (map plain_line lines.now)) result }
-        ensures order { reader.new.order ≡ reader.old.order }
+            AreRead (λ said done. IsRead (plain_format reader.old.format) self.new said)
+            (index_in_format (plain_format reader.old.format) (map plain_line lines.now)) result }
+        ensures format { reader.new.format ≡ reader.old.format }
     {
         let [first, others @ ..] = lines else {
             return Err(IndexFault::Unreadable(1));
@@ -67,10 +70,11 @@ impl SmallIndex {
         line: &Line<'t>,
     ) -> Result<(), IndexFault>
         ensures is { IsRequestAdded self.new
-            (option_and_then (request_said (plain_order reader.old.order)) (plain_line line.now).words)
+            (option_and_then (request_said (plain_format reader.old.format)) (plain_line line.now).words)
             line.now.number result }
         ensures kept { (versions : List VersionText) → IsOf self.old versions → IsOf self.new versions }
-        ensures order { reader.new.order ≡ reader.old.order }
+        ensures solvables { self.new.pool.solvables ≡ self.old.pool.solvables }
+        ensures format { reader.new.format ≡ reader.old.format }
     {
         let Some(request) = reader.request(line)? else {
             return Err(IndexFault::Unreadable(line.number));
@@ -81,39 +85,48 @@ impl SmallIndex {
         Ok(())
     }
 
-    /// Adds the versions of lines.
+    /// Adds the versions of lines, where there is none yet.
     fn add_versions<'t>(
         &mut self,
         reader: &mut Reader<'t>,
         lines: &[Line<'t>],
     ) -> Result<(), IndexFault>
+        requires { self.old.pool.solvables ≡ [] }
         ensures are { (versions : List VersionText) → IsOf self.old versions →
             AreRead (λ more done. IsOf self.new more)
-            (versions_of (plain_order reader.old.order) versions (map plain_line lines.now)) result }
+            (versions_of (plain_format reader.old.format) versions (map plain_line lines.now)) result }
         ensures later { IsLater self.old.pool self.new.pool }
         ensures request { self.new.request ≡ self.old.request }
-        ensures order { reader.new.order ≡ reader.old.order }
+        ensures format { reader.new.format ≡ reader.old.format }
     {
+        let mut known = IndexSet::with_capacity(self.alloc, lines.len())?;
         for line in lines {
-            self.add_line(reader, line)?;
+            self.add_line(reader, &mut known, line)?;
         }
         Ok(())
     }
 
     /// Adds the version of a line.
-    fn add_line<'t>(&mut self, reader: &mut Reader<'t>, line: &Line<'t>) -> Result<(), IndexFault>
+    fn add_line<'t>(
+        &mut self,
+        reader: &mut Reader<'t>,
+        known: &mut Known,
+        line: &Line<'t>,
+    ) -> Result<(), IndexFault>
+        requires { known.old.keys ≡ map numbered self.old.pool.solvables }
         ensures is { (versions : List VersionText) → IsOf self.old versions → IsLineAdded (IsOf self.new)
             (option_and_then (with_version versions)
-            (option_and_then (version_said (plain_order reader.old.order)) (plain_line line.now).words))
+            (option_and_then (version_said (plain_format reader.old.format)) (plain_line line.now).words))
             line.now.number result }
+        ensures known { OnOk result (known.new.keys ≡ map numbered self.new.pool.solvables) }
         ensures later { IsLater self.old.pool self.new.pool }
         ensures request { self.new.request ≡ self.old.request }
-        ensures order { reader.new.order ≡ reader.old.order }
+        ensures format { reader.new.format ≡ reader.old.format }
     {
         let Some(version) = reader.version(line)? else {
             return Err(IndexFault::Unreadable(line.number));
         };
-        if self.add_version(&version)? {
+        if self.add_version(known, &version)? {
             Ok(())
         } else {
             Err(IndexFault::Unreadable(line.number))
@@ -121,19 +134,21 @@ impl SmallIndex {
     }
 
     /// Adds a version, unless there is the same one.
-    fn add_version(&mut self, version: &Version<'_>) -> Result<bool, StoreError>
+    fn add_version(&mut self, known: &mut Known, version: &Version<'_>) -> Result<bool, StoreError>
+        requires { known.old.keys ≡ map numbered self.old.pool.solvables }
         ensures is { IfOk result (λ added. (versions : List VersionText) → IsOf self.old versions →
             IsAdded (IsOf self.new) (with_version versions (plain_version version.now)) added) }
+        ensures known { OnOk result (known.new.keys ≡ map numbered self.new.pool.solvables) }
         ensures later { IsLater self.old.pool self.new.pool }
         ensures request { self.new.request ≡ self.old.request }
     {
         let name = intern_name(self.alloc, &mut self.pool, version.name);
         self.pool.tell_sound();
         let name = name?;
-        reach(self.alloc, &mut self.packages, name.to_index())?;
-        if has_version(&self.pool, &self.packages[name.to_index()], version.version) {
+        if !known.insert((name, version.version))? {
             return Ok(false);
         }
+        reach(self.alloc, &mut self.packages, name.to_index())?;
         self.add_fresh(name, version)?;
         Ok(true)
     }
@@ -145,6 +160,8 @@ impl SmallIndex {
         ensures is { OnOk result ((versions : List VersionText) → IsOf self.old versions →
             IsNamed (with_bytes self.old.pool) name version.now.name.now →
             IsOf self.new (versions ++ plain_version version.now ∷ [])) }
+        ensures solvables { OnOk result (self.new.pool.solvables ≡
+            self.old.pool.solvables ++ record { name = name; payload = version.now.version } ∷ []) }
         ensures later { IsLater self.old.pool self.new.pool }
         ensures request { self.new.request ≡ self.old.request }
     {
@@ -170,19 +187,6 @@ fn reach(alloc: Global, packages: &mut Vec<Package>, place: usize) -> Result<(),
         packages.push(Package::new(alloc))?;
     }
     Ok(())
-}
-
-/// Whether one of the package's versions has this number.
-fn has_version(pool: &Ids, package: &Package, version: u32) -> bool
-    ensures { result ≡ list_any
-        (λ s. nat_lt s (length pool.now.solvables) && (version_in pool.now s == version)) «package».now.versions.items }
-{
-    for solvable in &package.versions {
-        if pool.knows_solvable(*solvable) && pool.resolve_solvable(*solvable).payload == version {
-            return true;
-        }
-    }
-    false
 }
 
 /// Adds a version to the package at a place.

@@ -66,6 +66,7 @@ pub(crate) fn intern_entries(
     ensures solvables { pool.new.solvables ≡ pool.old.solvables }
 {
     let mut found = KnownDependencies::new(alloc);
+    found.requirements.reserve_exact(entries.len())?;
     for entry in entries {
         intern_entry(alloc, pool, &mut found, entry)?;
     }

@@ -3,7 +3,7 @@ use Rattle.std.proofs.Common.{◌≡◌, ◌∙◌, ℕ, ◌+◌, ◌-◌, ◌<�
 use Rattle.std.proofs.Common.{Option, None, Some, refl, ap, sym, arith, append_assoc}
 use Rattle.std.specs.Prelude.{option_map, if◌then◌else◌}
 use Rattle.std.proofs.lemmas.List.{take_more, take_all, drop_all, drop-drop, at_drop_more, length-drop, append-nil}
-use Rattle.index_text.specs.Orders.{begins_with_dots, ends_of}
+use Rattle.index_text.specs.Formats.{begins_with_dots, ends_of}
 
 abbrev pub behind : List ℕ → Option (List ℕ × List ℕ) → Option (List ℕ × List ℕ)
 behind front ends = option_map (λ (e : List ℕ × List ℕ). (front ++ e.0, e.1)) ends

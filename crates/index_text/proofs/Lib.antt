@@ -7,5 +7,4 @@ pub mod OrderLemmas
 pub mod PartLemmas
 pub mod Printed
 pub mod SemverTexts
-pub mod Skipped
 pub mod WordLemmas

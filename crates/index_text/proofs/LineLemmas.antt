@@ -1,11 +1,12 @@
 -- The lines of a text, one by one.
 use Rattle.std.proofs.Common.{◌≡◌, ◌∙◌, ℕ, ◌+◌, Bool, true, false, ◌&&◌, List, [], ◌∷◌, ◌++◌, Option, None, Some}
 use Rattle.std.proofs.Common.{refl, ap, sym}
-use Rattle.std.specs.Prelude.{if◌then◌else◌, ◌==◌}
+use Rattle.std.specs.Prelude.{if◌then◌else◌, ◌==◌, ⊤}
 use Rattle.std.specs.List.{list_all}
 use Rattle.std.proofs.lemmas.List.Folds.{list_all-append}
 use Rattle.index_text.specs.Indexes.{NumberedWords, words_in, is_skipped, numbered}
-use Rattle.index_text.specs.PlainLines.{line_meant, IsKeywordPrinted}
+use Rattle.index_text.specs.PlainLines.{line_meant}
+use Rattle.index_text.specs.Printed.{is_said_printed, plain_said}
 use Rattle.script_text.proofs.Printing.{both}
 use Rattle.script_text.specs.Lines.{is_printed, IsPrinted}
 use Rattle.script_text.specs.Statements.{MeansWords, IsSkipped}
@@ -42,11 +43,27 @@ words_printed begun (b ∷ line) h k =
     (words_printed [] line refl (both (is_printed b) _ k).1)
     (words_printed (begun ++ b ∷ []) line (one_more begun b h (both (is_printed b) _ k).0) (both (is_printed b) _ k).1)
 
+abbrev pub IsKeywordPrinted : TextLine Statement → Type 0
+IsKeywordPrinted (Says said) = IsPrinted said.keyword.now
+IsKeywordPrinted _ = ⊤
+
 -- the first word of a line is printed, as the line is
 pub keyword_printed : (line : List ℕ) (said : TextLine Statement) → MeansWords line said → IsKeywordPrinted said
 keyword_printed line Skipped h = (cc)
 keyword_printed line Unreadable h = (cc)
 keyword_printed line (Says s) h = (both _ _ (sym (ap are_printed h.2) ∙ words_printed [] line refl h.0)).0
+
+-- what is read of a line are its words
+pub unreadable_words : (line : List ℕ) → list_all is_printed line ≡ false → words_in line ≡ None
+unreadable_words line h = ap (λ p. if p then Some (words line) else None) h
+
+pub said_words : (line : List ℕ) (s : Statement) → MeansWords line (Says s) → words_in line ≡ plain_said (Some s)
+said_words line s h = ap (λ p. if p then Some (words line) else None) h.0 ∙ ap Some h.2
+
+-- and they are printed
+pub said_printed : (line : List ℕ) (s : Statement) → MeansWords line (Says s) → IsPrinted s.rest.now
+    → is_said_printed (Some s) ≡ true
+said_printed line s means rest = and_true _ _ (keyword_printed line (Says s) means) rest
 
 -- the line of this number before others, if it says something
 abbrev pub before : Option NumberedWords → List NumberedWords → List NumberedWords

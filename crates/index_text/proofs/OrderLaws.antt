@@ -20,9 +20,9 @@ use Rattle.std.proofs.lemmas.Map.Keys.{Less-from_sorted, sorted_head, sorted_tai
 use Rattle.index_text.proofs.OrderLemmas.{version_total}
 use Rattle.index_text.proofs.SemverTexts.{text_of_semver}
 use Rattle.index_text.specs.Indexes.{NumberedWords}
-use Rattle.index_text.specs.Orders.{Numbers, Semver, version_cmp, place_of, number_in, semver_of}
-use Rattle.index_text.specs.Orders.{version_text, text_of_parts}
-use Rattle.index_text.specs.Written.{order_of, says_semver, texts_in, written, written_in, written_on, with_versions}
+use Rattle.index_text.specs.Formats.{Numbers, Semver, version_cmp, place_of, number_in, semver_of}
+use Rattle.index_text.specs.Formats.{version_text, text_of_parts}
+use Rattle.index_text.specs.Written.{format_of, says_semver, texts_in, written, written_in, written_on, with_versions}
 use Rattle.script_text.specs.Numbers.{below}
 use Rattle.semver.specs.OrderLaws.{pre-anti, build-anti}
 use Rattle.semver.specs.Parse.{Parts}
@@ -215,7 +215,7 @@ pub written_has_number : (lines : List NumberedWords) (line : NumberedWords) (wo
     → says_semver lines ≡ true → length (with_versions [] (written lines)) < 2 ^ 32
     → Contains lines line → line.words ≡ Some words → Contains words word → Contains (texts_in word) text
     → semver_of text ≡ Some version
-    → (number : ℕ) × (number_in (order_of lines) text ≡ Some number)
+    → (number : ℕ) × (number_in (format_of lines) text ≡ Some number)
 written_has_number lines line words word text version semver few in-lines says in-words in-word is =
     let known = with_versions [] (written lines) in
     let of-word = mapped semver_of (texts_in word) text version in-word.0 in-word.1 in-word.2 is in

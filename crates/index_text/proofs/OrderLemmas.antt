@@ -16,7 +16,7 @@ use Rattle.std.proofs.lemmas.Bool.Decides.{nat_tests}
 use Rattle.std.proofs.lemmas.List.{length-map}
 use Rattle.std.proofs.lemmas.List.Sums.{position_or_len_is}
 use Rattle.std.proofs.lemmas.Map.Keys.{Less-from_sorted}
-use Rattle.index_text.specs.Orders.{version_cmp}
+use Rattle.index_text.specs.Formats.{version_cmp}
 use Rattle.semver.specs.Identifiers.{parts_of}
 use Rattle.semver.specs.OrderLaws.{pre_total, build_total}
 use Rattle.semver.specs.Parse.{Parts}

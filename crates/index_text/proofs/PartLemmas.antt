@@ -8,7 +8,7 @@ use Rattle.std.specs.Prelude.{slice_index_or, is_some, codes}
 use Rattle.std.proofs.lemmas.List.{take_more, take_all, drop_all, at_drop_more, map-append}
 use Rattle.std.proofs.lemmas.List.Splits.{length-slice_split}
 use Rattle.index_text.specs.Entries.{is_entry, cut, put_front, condition_in_parts}
-use Rattle.index_text.specs.Orders.{Order}
+use Rattle.index_text.specs.Formats.{VersionFormat}
 use Rattle.index_text.specs.Sets.{texts, parts_behind}
 use Rattle.index_text.proofs.Cuts.{onto_front, onto_front-more, onto_front-ends, onto_front-last, put_front-more}
 use Rattle.index_text.proofs.Cuts.{put_front-starts}
@@ -78,16 +78,16 @@ all_before between words i is so_far =
     ∙ ap (λ front. texts front ∷ []) (take_all i words (omega (arith, is)))
 
 -- a second `if` is no condition
-pub no_condition : (order : Order) (front : List (List ℕ)) (parts : List (List (List ℕ))) → 0 < length parts
-    → None ≡ condition_in_parts order (front ∷ parts)
-no_condition order front [] h = absurd (omega (arith, h))
-no_condition order front (part ∷ parts) h = refl
+pub no_condition : (format : VersionFormat) (front : List (List ℕ)) (parts : List (List (List ℕ))) → 0 < length parts
+    → None ≡ condition_in_parts format (front ∷ parts)
+no_condition format front [] h = absurd (omega (arith, h))
+no_condition format front (part ∷ parts) h = refl
 
-pub second_if : (order : Order) (words : List (List ℕ)) (front : List (List ℕ)) (rest : Option (Bor (List Word))) → is_some rest ≡ true
+pub second_if : (format : VersionFormat) (words : List (List ℕ)) (front : List (List ℕ)) (rest : Option (Bor (List Word))) → is_some rest ≡ true
     → slice_split (bytes_eq (codes "if")) words ≡ front ∷ parts_behind (bytes_eq (codes "if")) rest
-    → None ≡ condition_in_parts order (slice_split (bytes_eq (codes "if")) words)
-second_if order words front None some is = cc
-second_if order words front (Some rest) some is =
-    no_condition order front (slice_split (bytes_eq (codes "if")) (texts rest.now))
+    → None ≡ condition_in_parts format (slice_split (bytes_eq (codes "if")) words)
+second_if format words front None some is = cc
+second_if format words front (Some rest) some is =
+    no_condition format front (slice_split (bytes_eq (codes "if")) (texts rest.now))
     (omega (arith, length-slice_split (bytes_eq (codes "if")) (texts rest.now)))
-    ∙ ap (condition_in_parts order) (sym is)
+    ∙ ap (condition_in_parts format) (sym is)

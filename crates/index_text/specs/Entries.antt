@@ -4,7 +4,7 @@ use Rattle.std.specs.Prelude.{option_map, option_and_then, if◌then◌else◌, 
 use Rattle.std.specs.Borrow.{Bor}
 use Rattle.std.specs.List.{slice_split}
 use Rattle.std.specs.Str.{bytes_eq}
-use Rattle.index_text.specs.Orders.{Order}
+use Rattle.index_text.specs.Formats.{VersionFormat}
 use Rattle.index_text.specs.Sets.{SetText, texts, set_of, sets_of, alternatives_of, each_of}
 
 -- one of the sets is needed; if there are alternatives, where all sets of one of them hold
@@ -40,21 +40,21 @@ is_entry word = bytes_eq word (codes "needs") || (bytes_eq word (codes "limits")
     || (bytes_eq word (codes "favored") || bytes_eq word (codes "locked")))
 
 -- no condition, or what is behind an `if`
-abbrev pub condition_in_parts : Order → List (List (List ℕ)) → Option (List (List SetText))
-condition_in_parts order [] = Some []
-condition_in_parts order (words ∷ []) = alternatives_of order words
-condition_in_parts order _ = None
+abbrev pub condition_in_parts : VersionFormat → List (List (List ℕ)) → Option (List (List SetText))
+condition_in_parts format [] = Some []
+condition_in_parts format (words ∷ []) = alternatives_of format words
+condition_in_parts format _ = None
 
 -- UNION, and behind an `if`, if there is one, CONDITION
-abbrev pub need_in_parts : Order → List (List (List ℕ)) → Option NeedText
-need_in_parts order [] = None
-need_in_parts order (union ∷ condition) =
+abbrev pub need_in_parts : VersionFormat → List (List (List ℕ)) → Option NeedText
+need_in_parts format [] = None
+need_in_parts format (union ∷ condition) =
     option_and_then (λ sets. option_map (λ lists. record { union = sets; condition = lists })
-    (condition_in_parts order condition))
-    (sets_of order (codes "|") union)
+    (condition_in_parts format condition))
+    (sets_of format (codes "|") union)
 
-abbrev pub need_of : Order → List (List ℕ) → Option NeedText
-need_of order words = need_in_parts order (slice_split (bytes_eq (codes "if")) words)
+abbrev pub need_of : VersionFormat → List (List ℕ) → Option NeedText
+need_of format words = need_in_parts format (slice_split (bytes_eq (codes "if")) words)
 
 -- an entry without anything behind it
 abbrev pub alone : EntryText → List (List ℕ) → Option EntryText
@@ -62,17 +62,17 @@ alone entry [] = Some entry
 alone entry _ = None
 
 -- an entry's words, the first of which says its kind
-abbrev pub entry_of : Order → List (List ℕ) → Option EntryText
-entry_of order [] = None
-entry_of order (keyword ∷ words) =
-    if bytes_eq keyword (codes "needs") then option_map Needs (need_of order words)
-    else if bytes_eq keyword (codes "limits") then option_map Limits (set_of order words)
+abbrev pub entry_of : VersionFormat → List (List ℕ) → Option EntryText
+entry_of format [] = None
+entry_of format (keyword ∷ words) =
+    if bytes_eq keyword (codes "needs") then option_map Needs (need_of format words)
+    else if bytes_eq keyword (codes "limits") then option_map Limits (set_of format words)
     else if bytes_eq keyword (codes "favored") then alone Favored words
     else if bytes_eq keyword (codes "locked") then alone Locked words
     else None
 
-abbrev pub entries_of : Order → List (List ℕ) → Option (List EntryText)
-entries_of order words = each_of (entry_of order) (cut is_entry words)
+abbrev pub entries_of : VersionFormat → List (List ℕ) → Option (List EntryText)
+entries_of format words = each_of (entry_of format) (cut is_entry words)
 
 -- the words of the entries from here on, if there are some
 abbrev pub entries_behind : Option (Bor (List (Bor (List ℕ)))) → List (List (List ℕ))

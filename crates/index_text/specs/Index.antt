@@ -6,12 +6,12 @@ use Rattle.std.specs.Str.{bytes_eq}
 use Rattle.index_text.specs.Entries.{EntryText}
 use Rattle.index_text.specs.Indexes.{NumberedWords}
 use Rattle.index_text.specs.Lines.{VersionText, version_said, request_said}
-use Rattle.index_text.specs.Orders.{Order}
-use Rattle.index_text.specs.Written.{order_of}
+use Rattle.index_text.specs.Formats.{VersionFormat}
+use Rattle.index_text.specs.Written.{format_of}
 
 -- what an index says
 pub record IndexText : Type 0 where
-  pub order : Order
+  pub format : VersionFormat
   pub request : List EntryText
   pub versions : List VersionText
 
@@ -29,22 +29,22 @@ or_fault number go None = Err number
 or_fault number go (Some x) = go x
 
 -- the versions of these lines behind those; or the number of the first line that is no version, or the same as another
-abbrev pub versions_of : Order → List VersionText → List NumberedWords → Result (List VersionText) ℕ
-versions_of order versions [] = Ok versions
-versions_of order versions (line ∷ rest) = or_fault line.number (λ more. versions_of order more rest)
-    (option_and_then (with_version versions) (option_and_then (version_said order) line.words))
+abbrev pub versions_of : VersionFormat → List VersionText → List NumberedWords → Result (List VersionText) ℕ
+versions_of format versions [] = Ok versions
+versions_of format versions (line ∷ rest) = or_fault line.number (λ more. versions_of format more rest)
+    (option_and_then (with_version versions) (option_and_then (version_said format) line.words))
 
-abbrev pub with_request : Order → List EntryText → Result (List VersionText) ℕ → Result IndexText ℕ
-with_request order request (Ok versions) = Ok (record { order = order; request = request; versions = versions })
-with_request order request (Err number) = Err number
+abbrev pub with_request : VersionFormat → List EntryText → Result (List VersionText) ℕ → Result IndexText ℕ
+with_request format request (Ok versions) = Ok (record { format = format; request = request; versions = versions })
+with_request format request (Err number) = Err number
 
 -- the same, where the versions are written so
-abbrev pub index_in_order : Order → List NumberedWords → Result IndexText ℕ
-index_in_order order [] = Err 1
-index_in_order order (line ∷ rest) =
-    or_fault line.number (λ request. with_request order request (versions_of order [] rest))
-    (option_and_then (request_said order) line.words)
+abbrev pub index_in_format : VersionFormat → List NumberedWords → Result IndexText ℕ
+index_in_format format [] = Err 1
+index_in_format format (line ∷ rest) =
+    or_fault line.number (λ request. with_request format request (versions_of format [] rest))
+    (option_and_then (request_said format) line.words)
 
 -- what the lines of an index say, or the number of the first unreadable one
 abbrev pub index_of : List NumberedWords → Result IndexText ℕ
-index_of lines = index_in_order (order_of lines) lines
+index_of lines = index_in_format (format_of lines) lines

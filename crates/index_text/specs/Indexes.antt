@@ -1,10 +1,9 @@
 -- The indexes of a text, and the lines of each.
-use Rattle.std.specs.Prelude.{ℕ, ◌+◌, Bool, true, false, List, [], ◌∷◌, ◌++◌, Option, None, Some}
+use Rattle.std.specs.Prelude.{ℕ, ◌+◌, Bool, true, false, List, [], ◌∷◌, Option, None, Some}
 use Rattle.std.specs.Prelude.{if◌then◌else◌, codes}
 use Rattle.std.specs.List.{list_all}
 use Rattle.std.specs.Str.{bytes_eq}
 use Rattle.index_text.specs.Entries.{cut, put_front}
-use Rattle.index_text.specs.Lines.{VersionText, version_said, request_said}
 use Rattle.script_text.specs.Lines.{is_printed, lines}
 use Rattle.script_text.specs.Statements.{is_comment}
 use Rattle.script_text.specs.Words.{words}

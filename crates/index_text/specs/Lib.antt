@@ -3,10 +3,10 @@ pub mod Entries
 pub mod Index
 pub mod Indexes
 pub mod Lines
-pub mod Orders
+pub mod Formats
 pub mod Plain
 pub mod PlainLines
-pub mod PlainOrders
+pub mod PlainFormats
 pub mod Printed
 pub mod Sets
 pub mod Written

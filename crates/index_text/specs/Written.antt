@@ -4,7 +4,7 @@ use Rattle.std.specs.BTreeSet.{insert_key}
 use Rattle.std.specs.List.{filter_map, flat_map, fold}
 use Rattle.std.specs.Str.{bytes_eq}
 use Rattle.index_text.specs.Indexes.{NumberedWords}
-use Rattle.index_text.specs.Orders.{Order, Numbers, Semver, version_cmp, semver_of, ends_of}
+use Rattle.index_text.specs.Formats.{VersionFormat, Numbers, Semver, version_cmp, semver_of, ends_of}
 use Rattle.semver.specs.Parse.{Parts}
 
 abbrev pub both_ends : Option (List ℕ × List ℕ) → List (List ℕ)
@@ -23,6 +23,7 @@ versions_in texts = filter_map semver_of texts
 abbrev pub written_in : List ℕ → List Parts
 written_in word = versions_in (texts_in word)
 
+-- the SemVer versions of a line's words
 abbrev pub written_on : Option (List (List ℕ)) → List Parts
 written_on None = []
 written_on (Some words) = flat_map written_in words
@@ -41,10 +42,11 @@ is_semver_request (Some (keyword ∷ format ∷ words)) =
     bytes_eq keyword (codes "request") && bytes_eq format (codes "semver")
 is_semver_request _ = false
 
+-- the first of these lines is so
 abbrev pub says_semver : List NumberedWords → Bool
 says_semver [] = false
 says_semver (line ∷ lines) = is_semver_request line.words
 
 -- how the versions of an index of these lines are written
-abbrev pub order_of : List NumberedWords → Order
-order_of lines = if says_semver lines then Semver (with_versions [] (written lines)) else Numbers
+abbrev pub format_of : List NumberedWords → VersionFormat
+format_of lines = if says_semver lines then Semver (with_versions [] (written lines)) else Numbers

@@ -1,46 +1,62 @@
 //! Why a line is unreadable.
-ghost use Rattle.std.specs.Prelude.{◌≡◌, ◌≤◌, [], not, length, Some, IfOk, IfSome, MatchOption, is_some, map};
-ghost use Rattle.std.specs.Prelude.{option_and_then};
-ghost use Rattle.index_text.specs.Diagnoses.{IsWithin, is_first, is_new, is_readable};
-ghost use Rattle.index_text.specs.Indexes.{words_in};
+ghost use Rattle.std.specs.Prelude.{◌≡◌, not, IfOk, IfSome, is_some, map, option_and_then, option_map};
+ghost use Rattle.script_text.specs.Lines.{IsPrinted};
+ghost use Rattle.index_text.specs.Diagnoses.{IsPlace, IsPlaceIn, is_first, is_new, is_readable, line_of, line_in};
 ghost use Rattle.index_text.specs.Lines.{request_said, version_said};
-ghost use Rattle.index_text.specs.Plain.{plain_version};
 ghost use Rattle.index_text.specs.PlainLines.{plain_line};
-ghost use Rattle.index_text.specs.PlainOrders.{plain_order};
+ghost use Rattle.index_text.specs.Printed.{first_line};
+ghost use Rattle.index_text.specs.PlainFormats.{plain_format};
 
 use crate::earlier::earlier_line;
 use crate::expected::Expected;
 use crate::line::Line;
+use crate::place::LineKind;
+use crate::raw::raw_line;
 use crate::reader::Reader;
-use crate::stop::{Stop, request_stop, unprinted_length, version_stop, without_blanks};
-use script_text::{Statement, next_word};
+use crate::stop::line_stop;
+use crate::words::without_blanks;
 use std::alloc::{AllocError, Global};
 
 /// What is wrong with a line: a column, counted from 1 in bytes, and what was expected there. The column is that of the
-/// first word that can't stand there, or the one behind the line's end.
-#[derive(Clone, Copy)]
+/// first byte that isn't printed; else that of the first word that can't stand there, or the one behind the line's end.
+/// If the version has a line already, it is that of the first word.
+#[derive(Clone, Copy, PartialEq, Eq)]
 pub struct Diagnosis {
     pub column: usize,
     pub expected: Expected,
 }
 
-/// Why a line of an index is unreadable; none if it is read. It is the line of this number among these lines.
+/// Why the line of this number is unreadable, among the lines of its index; none if it is read, or isn't there.
 pub fn diagnose(
     alloc: Global,
     lines: &[Line<'_>],
     number: u64,
-    line: &[u8],
 ) -> Result<Option<Diagnosis>, AllocError>
-    ensures none { IfOk result (λ fault.
-        not (is_some fault) ≡ is_readable number (map plain_line lines.now) (words_in line.now)) }
-    ensures within { IfOk result (λ fault. IfSome fault (IsWithin line.now)) }
+    ensures none { IfOk result (λ fault. not (is_some fault) ≡ is_readable number (map plain_line lines.now)) }
+    ensures place { IfOk result (λ fault. IfSome fault (IsPlaceIn (line_of number lines.now))) }
 {
+    let Some(line) = line_of(lines, number) else {
+        return Ok(None);
+    };
     let mut reader = Reader::new(alloc, lines)?;
     if is_first(lines, number) {
         request_fault(&mut reader, line)
     } else {
         version_fault(&mut reader, lines, number, line)
     }
+}
+
+/// The first line of this number.
+fn line_of<'l, 't>(lines: &'l [Line<'t>], number: u64) -> Option<&'l Line<'t>>
+    ensures is { option_map (λ line. line.now) result ≡ line_of number lines.now }
+    ensures plain { option_map (λ line. plain_line line.now) result ≡ line_in number (map plain_line lines.now) }
+{
+    for line in lines {
+        if line.number == number {
+            return Some(line);
+        }
+    }
+    None
 }
 
 /// Whether no line is before the line of this number.
@@ -56,19 +72,16 @@ fn is_first(lines: &[Line<'_>], number: u64) -> bool
 /// Why a line is no request; none if it is one.
 fn request_fault<'t>(
     reader: &mut Reader<'t>,
-    line: &'t [u8],
+    line: &Line<'t>,
 ) -> Result<Option<Diagnosis>, AllocError>
     ensures none { IfOk result (λ fault. not (is_some fault) ≡
-        is_some (option_and_then (request_said (plain_order reader.old.order)) (words_in line.now))) }
-    ensures within { IfOk result (λ fault. IfSome fault (IsWithin line.now)) }
+        is_some (option_and_then (request_said (plain_format reader.old.format)) (plain_line line.now).words)) }
+    ensures place { IfOk result (λ fault. IfSome fault (IsPlace (first_line line.now.text.now))) }
 {
-    if let Some(said) = said(line) {
-        if reader.request(&said)?.is_some() {
-            return Ok(None);
-        }
+    if reader.request(line)?.is_some() {
+        return Ok(None);
     }
-    let stop = request_stop(reader.alloc, &reader.order, line)?;
-    Ok(Some(at(line, stop)))
+    Ok(Some(stop_of(reader, raw_line(line.text), LineKind::Request)?))
 }
 
 /// Why a line is no version that has no line before; none if it is one.
@@ -76,62 +89,41 @@ fn version_fault<'t>(
     reader: &mut Reader<'t>,
     lines: &[Line<'_>],
     number: u64,
-    line: &'t [u8],
+    line: &Line<'t>,
 ) -> Result<Option<Diagnosis>, AllocError>
     ensures none { IfOk result (λ fault. not (is_some fault) ≡
-        is_new (plain_order reader.old.order) number (map plain_line lines.now)
-        (option_and_then (version_said (plain_order reader.old.order)) (words_in line.now))) }
-    ensures within { IfOk result (λ fault. IfSome fault (IsWithin line.now)) }
+        is_new (plain_format reader.old.format) number (map plain_line lines.now)
+        (option_and_then (version_said (plain_format reader.old.format)) (plain_line line.now).words)) }
+    ensures place { IfOk result (λ fault. IfSome fault (IsPlace (first_line line.now.text.now))) }
 {
-    if let Some(said) = said(line) {
-        if let Some(version) = reader.version(&said)? {
-            let earlier = earlier_line(reader.alloc, &reader.order, lines, number, &version)?;
-            return Ok(earlier_fault(line, earlier));
-        }
-    }
-    let stop = version_stop(reader.alloc, &reader.order, line)?;
-    Ok(Some(at(line, stop)))
+    let bytes = raw_line(line.text);
+    let Some(version) = reader.version(line)? else {
+        return Ok(Some(stop_of(reader, bytes, LineKind::Version)?));
+    };
+    let earlier = earlier_line(reader.alloc, &reader.format, lines, number, &version)?;
+    Ok(earlier_fault(bytes, earlier))
 }
 
 /// Why a version can't have this line: it has one before.
 fn earlier_fault(line: &[u8], earlier: Option<u64>) -> Option<Diagnosis>
+    requires { IsPrinted line.now }
     ensures some { is_some result ≡ is_some earlier }
-    ensures within { IfSome result (IsWithin line.now) }
+    ensures place { IfSome result (IsPlace line.now) }
 {
     let earlier = earlier?;
     Some(Diagnosis {
         column: line.len() - without_blanks(line).len() + 1,
-        expected: Expected::OneLineAVersion(earlier),
+        expected: Expected::DuplicateOf(earlier),
     })
 }
 
-/// The line that is read of these bytes; none if they have no word. Its number isn't known here.
-#[tactic(auto, using(crate::proofs::Printed::no_words, crate::proofs::Printed::first_words, crate::proofs::Printed::unprinted_words, crate::proofs::Printed::said_printed,))]
-fn said(line: &[u8]) -> Option<Line<'_>>
-    ensures { MatchOption result (words_in line.now ≡ Some []) (λ said. (plain_line said).words ≡ words_in line.now) }
+/// The diagnosis of a line that can't be read as one of this kind.
+fn stop_of(reader: &Reader<'_>, line: &[u8], kind: LineKind) -> Result<Diagnosis, AllocError>
+    ensures { IfOk result (IsPlace line.now) }
 {
-    if unprinted_length(line).is_some() {
-        return Some(Line {
-            number: 0,
-            said: None,
-        });
-    }
-    match next_word(line) {
-        Some((keyword, rest)) => Some(Line {
-            number: 0,
-            said: Some(Statement { keyword, rest }),
-        }),
-        None => None,
-    }
-}
-
-/// A stop by its column.
-fn at(line: &[u8], stop: Stop) -> Diagnosis
-    requires { stop.left ≤ length line.now }
-    ensures { IsWithin line.now result }
-{
-    Diagnosis {
+    let stop = line_stop(reader.alloc, &reader.format, line, kind)?;
+    Ok(Diagnosis {
         column: line.len() - stop.left + 1,
-        expected: stop.expected,
-    }
+        expected: stop.expected.in_format(&reader.format),
+    })
 }

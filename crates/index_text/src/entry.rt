@@ -4,10 +4,10 @@ ghost use Rattle.std.specs.Str.{bytes_eq};
 ghost use Rattle.index_text.specs.Entries.{need_of, condition_in_parts, entry_of, alone, entries_of, is_entry, cut};
 ghost use Rattle.index_text.specs.Entries.{entries_behind};
 ghost use Rattle.index_text.specs.Plain.{plain_need, plain_lists, plain_entry, plain_entries};
-ghost use Rattle.index_text.specs.PlainOrders.{plain_order};
+ghost use Rattle.index_text.specs.PlainFormats.{plain_format};
 ghost use Rattle.index_text.specs.Sets.{texts, parts_behind};
 
-use crate::order::Order;
+use crate::format::VersionFormat;
 use crate::set::{Set, Sets, alternatives, read_set, read_sets};
 use crate::words::first_part;
 use script_text::is_word;
@@ -49,16 +49,16 @@ fn is_entry(word: &str) -> bool
 /// `UNION`, or `UNION if CONDITION`.
 fn read_need<'t>(
     alloc: Global,
-    order: &Order,
+    format: &VersionFormat,
     words: &[&'t str],
 ) -> Result<Option<Need<'t>>, AllocError>
-    ensures { IfOk result (λ found. option_map plain_need found ≡ need_of (plain_order order.now) (texts words.now)) }
+    ensures { IfOk result (λ found. option_map plain_need found ≡ need_of (plain_format format.now) (texts words.now)) }
 {
     let (union, behind) = first_part(words, b"if");
-    let Some(union) = read_sets(alloc, order, union, b"|")? else {
+    let Some(union) = read_sets(alloc, format, union, b"|")? else {
         return Ok(None);
     };
-    let Some(condition) = read_condition(alloc, order, behind)? else {
+    let Some(condition) = read_condition(alloc, format, behind)? else {
         return Ok(None);
     };
     Ok(Some(Need { union, condition }))
@@ -67,11 +67,11 @@ fn read_need<'t>(
 /// What is behind an `if`, or no condition.
 fn read_condition<'t>(
     alloc: Global,
-    order: &Order,
+    format: &VersionFormat,
     words: Option<&[&'t str]>,
 ) -> Result<Option<Vec<Sets<'t>>>, AllocError>
     ensures { IfOk result (λ found. option_map plain_lists found ≡
-        condition_in_parts (plain_order order.now) (parts_behind (bytes_eq (codes "if")) words.entry)) }
+        condition_in_parts (plain_format format.now) (parts_behind (bytes_eq (codes "if")) words.entry)) }
 {
     let Some(words) = words else {
         return Ok(Some(Vec::new(alloc)));
@@ -80,27 +80,27 @@ fn read_condition<'t>(
     if behind.is_some() {
         return Ok(None);
     }
-    alternatives(alloc, order, condition)
+    alternatives(alloc, format, condition)
 }
 
 /// An entry of these words, the first of which says its kind.
 fn read_entry<'t>(
     alloc: Global,
-    order: &Order,
+    format: &VersionFormat,
     words: &[&'t str],
 ) -> Result<Option<Entry<'t>>, AllocError>
     ensures { IfOk result (λ found. option_map plain_entry found ≡
-        entry_of (plain_order order.now) (texts words.now)) }
+        entry_of (plain_format format.now) (texts words.now)) }
 {
     let [keyword, words @ ..] = words else {
         return Ok(None);
     };
     let keyword = keyword.as_bytes();
     if is_word(keyword, b"needs") {
-        return Ok(read_need(alloc, order, words)?.map(Entry::Needs));
+        return Ok(read_need(alloc, format, words)?.map(Entry::Needs));
     }
     if is_word(keyword, b"limits") {
-        return Ok(read_set(alloc, order, words)?.map(Entry::Limits));
+        return Ok(read_set(alloc, format, words)?.map(Entry::Limits));
     }
     if is_word(keyword, b"favored") {
         return Ok(alone(Entry::Favored, words));
@@ -121,17 +121,17 @@ fn alone<'t>(entry: Entry<'t>, words: &[&str]) -> Option<Entry<'t>>
 /// The entries of these words.
 pub(crate) fn entries<'t>(
     alloc: Global,
-    order: &Order,
+    format: &VersionFormat,
     words: &[&'t str],
 ) -> Result<Option<Vec<Entry<'t>>>, AllocError>
     ensures { IfOk result (λ found. option_map plain_entries found ≡
-        entries_of (plain_order order.now) (texts words.now)) }
+        entries_of (plain_format format.now) (texts words.now)) }
 {
     let mut found = Vec::new(alloc);
     let mut rest = if words.is_empty() { None } else { Some(words) };
     'entries: while let Some(words) = rest {
         let (first, others) = first_entry(words);
-        let Some(entry) = read_entry(alloc, order, first)? else {
+        let Some(entry) = read_entry(alloc, format, first)? else {
             return Ok(None);
         };
         found.push(entry)?;

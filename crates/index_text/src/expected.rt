@@ -1,22 +1,24 @@
 //! What an unreadable line should have.
-use crate::order::Order;
+use crate::format::VersionFormat;
 use std::fmt;
 
 /// What was expected at a place of a line.
-#[derive(Clone, Copy)]
+#[derive(Clone, Copy, PartialEq, Eq)]
 pub enum Expected {
     /// A printed character of ASCII, or a blank.
     PrintedByte,
-    /// The line `request`, before all others.
+    /// A request line, before all others.
     RequestFirst,
     /// The version of the line: a number.
     Version,
     /// The version of the line: a SemVer version.
     SemverVersion,
-    /// The beginning of an entry.
+    /// What is said of a version: an entry, or why it may not be picked.
+    State,
+    /// The beginning of an entry of a version.
     Entry,
     /// The beginning of a need: a request has no other entries.
-    OnlyNeeds,
+    Need,
     /// The name of a package.
     Name,
     /// A range of numbers.
@@ -25,20 +27,24 @@ pub enum Expected {
     SemverRange,
     /// A range whose first bound isn't above the second one.
     OrderedRange,
-    /// What goes on behind a set of a union.
+    /// What goes on behind a set of a union, in the line of a version.
     UnionOrEntry,
-    /// What goes on behind a set of a condition.
+    /// The same in a request.
+    UnionOrNeed,
+    /// What goes on behind a set of a condition, in the line of a version.
     ConditionOrEntry,
+    /// The same in a request.
+    ConditionOrNeed,
     /// Another version: this one has the line of this number already.
-    OneLineAVersion(u64),
+    DuplicateOf(u64),
 }
 
 impl Expected {
-    /// The same where versions are written so.
-    pub(crate) fn in_order(self, order: &Order) -> Expected {
-        match (order, self) {
-            (Order::Semver(_), Expected::Version) => Expected::SemverVersion,
-            (Order::Semver(_), Expected::Range) => Expected::SemverRange,
+    /// The same, in this format's words.
+    pub(crate) fn in_format(self, format: &VersionFormat) -> Expected {
+        match (format, self) {
+            (VersionFormat::Semver(_), Expected::Version) => Expected::SemverVersion,
+            (VersionFormat::Semver(_), Expected::Range) => Expected::SemverRange,
             _ => self,
         }
     }
@@ -47,28 +53,26 @@ impl Expected {
 /// As `expected LOW..HIGH, as 1..3`.
 impl fmt::Display for Expected {
     fn fmt<W: fmt::Write>(&self, f: &mut fmt::Formatter<W>) -> fmt::Result {
-        match self {
-            Expected::PrintedByte => f.write_str(
-                "expected a printed character of ASCII or a blank",
-            ),
-            Expected::RequestFirst => f.write_str("expected the line request before all others"),
-            Expected::Version => f.write_str("expected a version: a number below 2^32"),
-            Expected::SemverVersion => f.write_str("expected a SemVer version, as 1.4.0"),
-            Expected::SemverRange => f.write_str("expected LOW..HIGH, as 1.0.0..2.0.0"),
-            Expected::Entry => f.write_str("expected needs, limits, favored or locked"),
-            Expected::OnlyNeeds => f.write_str("expected needs: a request has no other entries"),
-            Expected::Name => f.write_str("expected a package's name"),
-            Expected::Range => f.write_str("expected LOW..HIGH, as 1..3"),
-            Expected::OrderedRange => f.write_str("LOW may not be above HIGH"),
-            Expected::UnionOrEntry => {
-                f.write_str("expected |, if, needs, limits, favored or locked")
+        let what = match self {
+            Expected::PrintedByte => "a printed character of ASCII or a blank",
+            Expected::RequestFirst => "a request line before all others",
+            Expected::Version => "a version: a number below 2^32",
+            Expected::SemverVersion => "a SemVer version, as 1.4.0",
+            Expected::State => "`needs`, `limits`, `favored`, `locked`, `excluded` or `unknown`",
+            Expected::Entry => "`needs`, `limits`, `favored` or `locked`",
+            Expected::Need => "`needs`",
+            Expected::Name => "a package's name",
+            Expected::Range => "LOW..HIGH, as 1..3",
+            Expected::SemverRange => "LOW..HIGH, as 1.0.0..2.0.0",
+            Expected::OrderedRange => return f.write_str("LOW may not be above HIGH"),
+            Expected::UnionOrEntry => "`|`, `if`, `needs`, `limits`, `favored` or `locked`",
+            Expected::UnionOrNeed => "`|`, `if` or `needs`",
+            Expected::ConditionOrEntry => "`and`, `or`, `needs`, `limits`, `favored` or `locked`",
+            Expected::ConditionOrNeed => "`and`, `or` or `needs`",
+            Expected::DuplicateOf(line) => {
+                return write!(f, "this version has a line already: line {line}");
             }
-            Expected::ConditionOrEntry => {
-                f.write_str("expected and, or, needs, limits, favored or locked")
-            }
-            Expected::OneLineAVersion(line) => {
-                write!(f, "this version has a line already: line {line}")
-            }
-        }
+        };
+        write!(f, "expected {what}")
     }
 }

@@ -2,8 +2,9 @@
 ghost use Rattle.std.specs.Prelude.{◌≡◌, ◌∷◌, ◌++◌, [], IfOk, OnOk, List, map, option_map};
 ghost use Rattle.index_text.specs.Entries.{put_front};
 ghost use Rattle.index_text.specs.Indexes.{indexes_of, begins_index, before_parts, NumberedWords};
-ghost use Rattle.index_text.specs.PlainLines.{plain_line, plain_lines, line_meant, IsKeywordPrinted};
-ghost use Rattle.script_text.specs.Statements.{IsRestPrinted};
+ghost use Rattle.index_text.specs.PlainLines.{plain_line, plain_lines, line_meant};
+ghost use Rattle.index_text.specs.Printed.{first_line};
+ghost use Rattle.script_text.specs.Statements.{IsRestPrinted, MeansWords};
 
 use crate::line::Line;
 use script_text::{Line as Said, Statement, is_word, next_statement};
@@ -20,10 +21,10 @@ pub fn split(alloc: Global, text: &[u8]) -> Result<Vec<Vec<Line<'_>>>, AllocErro
     let mut rest = text;
     while let Some((said, others)) = next_statement(rest) {
         number += 1;
-        rest = others;
-        if let Some(line) = numbered_line(number, said) {
+        if let Some(line) = numbered_line(number, said, rest) {
             add_line(alloc, &mut indexes, &mut lines, line)?;
         }
+        rest = others;
     }
     if !lines.is_empty() {
         indexes.push(lines)?;
@@ -49,18 +50,23 @@ fn add_line<'t>(
     Ok(lines.push(line)?)
 }
 
-/// The line of this number, if it says something.
-fn numbered_line(number: u64, said: Said<Statement<'_>>) -> Option<Line<'_>>
-    requires keyword { IsKeywordPrinted said }
+/// The line of this number with which a text begins, if it says something.
+fn numbered_line<'t>(number: u64, said: Said<Statement<'t>>, text: &'t [u8]) -> Option<Line<'t>>
+    requires means { MeansWords (first_line text.now) said }
     requires rest { IsRestPrinted said }
     ensures { option_map plain_line result ≡ line_meant number said.entry }
 {
     match said {
         Said::Skipped => None,
-        Said::Unreadable => Some(Line { number, said: None }),
+        Said::Unreadable => Some(Line {
+            number,
+            said: None,
+            text,
+        }),
         Said::Says(said) => Some(Line {
             number,
             said: Some(said),
+            text,
         }),
     }
 }

@@ -8,8 +8,8 @@
 //!     b 3 excluded does not build
 //!
 //! docs/INDEX.md has the format. A text may have several indexes, each of which begins with a `request` line. [`split`]
-//! finds the lines of each, and a [`Reader`] reads them one by one. Nothing is known here of ids: who
-//! reads an index makes of it what a resolver needs (`example_index`).
+//! finds the lines of each, and a [`Reader`] reads them one by one. [`diagnose`] says why a line is unreadable.
+//! Versions are numbers or SemVer versions ([`VersionFormat`]). This crate has no ids. `example_index` gives them out.
 //!
 //! `specs/` has the whole format: a contract says of each function that it reads just that, and nothing else.
 #![tactic(auto)]
@@ -18,26 +18,26 @@ mod diagnosis;
 mod earlier;
 mod entry;
 mod expected;
+mod format;
 mod indexes;
-mod known;
 mod line;
-mod order;
 mod place;
 mod raw;
 mod reader;
+mod semver_versions;
 mod set;
 mod stop;
 mod version;
+mod word_length;
 mod words;
 
 pub use diagnosis::{Diagnosis, diagnose};
 pub use entry::{Entry, Need};
 pub use expected::Expected;
+pub use format::VersionFormat;
 pub use indexes::split;
-pub use known::Known;
 pub use line::Line;
-pub use order::Order;
-pub use raw::{raw_line, skip_lines};
 pub use reader::Reader;
+pub use semver_versions::SemverVersions;
 pub use set::{Set, Sets};
 pub use version::{State, Version};

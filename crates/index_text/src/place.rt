@@ -1,10 +1,13 @@
 //! What may stand at a place of a line's entries.
 use crate::expected::Expected;
+use crate::format::VersionFormat;
+use crate::set::{BadRange, range};
+use std::alloc::{AllocError, Global};
 
-/// Whose entries they are.
+/// What a line is.
 #[derive(Clone, Copy)]
-pub(crate) enum Whose {
-    /// A request has needs alone.
+pub(crate) enum LineKind {
+    /// It has needs alone.
     Request,
     Version,
 }
@@ -17,20 +20,12 @@ pub(crate) enum Part {
     Limits,
 }
 
-/// What a word is as `LOW..HIGH`.
-#[derive(Clone, Copy)]
-pub(crate) enum Bounds {
-    /// It hasn't two versions.
-    Missing,
-    /// Its first version is above its second one.
-    TurnedRound,
-    Ordered,
-}
-
 /// A place between two words.
 #[derive(Clone, Copy)]
 pub(crate) enum Place {
-    /// An entry begins here, or the line ends.
+    /// Before the first entry. Directly behind a version its state may stand here too.
+    First,
+    /// Behind an entry that has ended: another one begins here, or the line ends.
     Entry,
     /// Before the name of a set.
     Name(Part),
@@ -44,69 +39,76 @@ pub(crate) enum Place {
 
 impl Place {
     /// The place behind this word, or what was expected in its stead.
-    pub(crate) fn behind(self, word: &str, range: Bounds, whose: Whose) -> Result<Place, Expected> {
-        match self {
-            Place::Entry => behind_entry(word, whose, Expected::Entry),
+    pub(crate) fn behind(
+        self,
+        alloc: Global,
+        format: &VersionFormat,
+        word: &str,
+        kind: LineKind,
+    ) -> Result<Result<Place, Expected>, AllocError> {
+        let next = match self {
+            Place::Range(part) => return Ok(behind_range(
+                range(alloc, format, word.as_bytes())?,
+                part,
+            )),
             Place::Name(part) => behind_name(word, part),
-            Place::Range(part) => behind_range(range, part),
             Place::Union => match word {
-                "|" => Ok(Place::Name(Part::Union)),
-                "if" => Ok(Place::Name(Part::Condition)),
-                _ => behind_entry(word, whose, Expected::UnionOrEntry),
+                "|" => Some(Place::Name(Part::Union)),
+                "if" => Some(Place::Name(Part::Condition)),
+                _ => behind_entry(word, kind),
             },
             Place::Condition => match word {
-                "and" | "or" => Ok(Place::Name(Part::Condition)),
-                _ => behind_entry(word, whose, Expected::ConditionOrEntry),
+                "and" | "or" => Some(Place::Name(Part::Condition)),
+                _ => behind_entry(word, kind),
             },
-        }
+            Place::First | Place::Entry => behind_entry(word, kind),
+        };
+        Ok(next.ok_or(self.expected(kind)))
     }
 
-    /// What is missing if the line ends here.
-    pub(crate) fn missing(self) -> Option<Expected> {
-        match self {
-            Place::Name(_) => Some(Expected::Name),
-            Place::Range(_) => Some(Expected::Range),
-            Place::Entry | Place::Union | Place::Condition => None,
+    /// What may stand here.
+    pub(crate) fn expected(self, kind: LineKind) -> Expected {
+        match (self, kind) {
+            (Place::Name(_), _) => Expected::Name,
+            (Place::Range(_), _) => Expected::Range,
+            (Place::Union, LineKind::Request) => Expected::UnionOrNeed,
+            (Place::Union, LineKind::Version) => Expected::UnionOrEntry,
+            (Place::Condition, LineKind::Request) => Expected::ConditionOrNeed,
+            (Place::Condition, LineKind::Version) => Expected::ConditionOrEntry,
+            (_, LineKind::Request) => Expected::Need,
+            (Place::First, LineKind::Version) => Expected::State,
+            (Place::Entry, LineKind::Version) => Expected::Entry,
         }
     }
 }
 
-/// The place behind a word that begins an entry.
-fn behind_entry(word: &str, whose: Whose, expected: Expected) -> Result<Place, Expected> {
-    let place = match word {
-        "needs" => return Ok(Place::Name(Part::Union)),
-        "limits" => Place::Name(Part::Limits),
-        "favored" | "locked" => Place::Entry,
-        _ => return Err(expected),
-    };
-    match whose {
-        Whose::Request => Err(Expected::OnlyNeeds),
-        Whose::Version => Ok(place),
+/// The place behind a word that begins an entry; none if it begins none.
+fn behind_entry(word: &str, kind: LineKind) -> Option<Place> {
+    match (word, kind) {
+        ("needs", _) => Some(Place::Name(Part::Union)),
+        ("limits", LineKind::Version) => Some(Place::Name(Part::Limits)),
+        ("favored" | "locked", LineKind::Version) => Some(Place::Entry),
+        _ => None,
     }
 }
 
 /// The place behind the name of a set. Words that begin an entry, or separate sets here, are no names.
-fn behind_name(word: &str, part: Part) -> Result<Place, Expected> {
-    let is_name = match (word, part) {
-        ("needs" | "limits" | "favored" | "locked", _) => false,
-        ("|", Part::Union) => false,
-        ("if", Part::Union | Part::Condition) => false,
-        ("and" | "or", Part::Condition) => false,
-        _ => true,
-    };
-    if is_name {
-        Ok(Place::Range(part))
-    } else {
-        Err(Expected::Name)
+fn behind_name(word: &str, part: Part) -> Option<Place> {
+    match (word, part) {
+        ("needs" | "limits" | "favored" | "locked", _) => None,
+        ("|", Part::Union) => None,
+        ("if", Part::Union | Part::Condition) => None,
+        ("and" | "or", Part::Condition) => None,
+        _ => Some(Place::Range(part)),
     }
 }
 
-/// The place behind the range of a set.
-fn behind_range(range: Bounds, part: Part) -> Result<Place, Expected> {
+/// The place behind the range of a set, or what was expected in the range's stead.
+fn behind_range(range: Result<(u32, u32), BadRange>, part: Part) -> Result<Place, Expected> {
     match range {
-        Bounds::Missing => Err(Expected::Range),
-        Bounds::TurnedRound => Err(Expected::OrderedRange),
-        Bounds::Ordered => Ok(match part {
+        Err(BadRange::NotARange) => Err(Expected::Range),
+        Err(BadRange::Reversed) => Err(Expected::OrderedRange),
+        Ok(_) => Ok(match part {
             Part::Union => Place::Union,
             Part::Condition => Place::Condition,
             Part::Limits => Place::Entry,

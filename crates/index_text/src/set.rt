@@ -1,10 +1,11 @@
 //! Version sets of a line.
 ghost use Rattle.std.specs.Prelude.{◌≡◌, IfOk, option_map};
+ghost use Rattle.std.specs.Result.{result_ok};
 ghost use Rattle.index_text.specs.Plain.{plain_set, plain_sets, plain_lists};
-ghost use Rattle.index_text.specs.PlainOrders.{plain_order};
+ghost use Rattle.index_text.specs.PlainFormats.{plain_format};
 ghost use Rattle.index_text.specs.Sets.{texts, version_of, range_of, set_of, sets_of, alternatives_of};
 
-use crate::order::{Order, ends};
+use crate::format::{VersionFormat, split_at_dots};
 use crate::words::first_part;
 use script_text::number;
 use std::alloc::{AllocError, Global};
@@ -31,42 +32,51 @@ pub(crate) fn version(word: &[u8]) -> Option<u32>
     u32::try_from(number(word)?).ok()
 }
 
+/// Why a word is no range.
+#[derive(Clone, Copy)]
+pub(crate) enum BadRange {
+    /// It isn't two versions with `..` between them.
+    NotARange,
+    /// Its first version is above its second one.
+    Reversed,
+}
+
 /// The bounds of `LOW..HIGH`, the lower one first.
 pub(crate) fn range(
     alloc: Global,
-    order: &Order,
+    format: &VersionFormat,
     word: &[u8],
-) -> Result<Option<(u32, u32)>, AllocError>
-    ensures { IfOk result (λ found. found ≡ range_of (plain_order order.now) word.now) }
+) -> Result<Result<(u32, u32), BadRange>, AllocError>
+    ensures { IfOk result (λ found. result_ok found ≡ range_of (plain_format format.now) word.now) }
 {
-    let Some((low, high)) = ends(word) else {
-        return Ok(None);
+    let Some((low, high)) = split_at_dots(word) else {
+        return Ok(Err(BadRange::NotARange));
     };
-    let Some(low) = order.number(alloc, low)? else {
-        return Ok(None);
+    let Some(low) = format.number(alloc, low)? else {
+        return Ok(Err(BadRange::NotARange));
     };
-    let Some(high) = order.number(alloc, high)? else {
-        return Ok(None);
+    let Some(high) = format.number(alloc, high)? else {
+        return Ok(Err(BadRange::NotARange));
     };
     if low <= high {
-        Ok(Some((low, high)))
+        Ok(Ok((low, high)))
     } else {
-        Ok(None)
+        Ok(Err(BadRange::Reversed))
     }
 }
 
 /// `NAME LOW..HIGH`.
 pub(crate) fn read_set<'t>(
     alloc: Global,
-    order: &Order,
+    format: &VersionFormat,
     words: &[&'t str],
 ) -> Result<Option<Set<'t>>, AllocError>
-    ensures { IfOk result (λ found. option_map plain_set found ≡ set_of (plain_order order.now) (texts words.now)) }
+    ensures { IfOk result (λ found. option_map plain_set found ≡ set_of (plain_format format.now) (texts words.now)) }
 {
     let [name, bounds] = words else {
         return Ok(None);
     };
-    let Some((low, high)) = range(alloc, order, bounds.as_bytes())? else {
+    let Ok((low, high)) = range(alloc, format, bounds.as_bytes())? else {
         return Ok(None);
     };
     Ok(Some(Set {
@@ -79,21 +89,21 @@ pub(crate) fn read_set<'t>(
 /// Sets with a word between each and the next.
 pub(crate) fn read_sets<'t>(
     alloc: Global,
-    order: &Order,
+    format: &VersionFormat,
     words: &[&'t str],
     between: &[u8],
 ) -> Result<Option<Sets<'t>>, AllocError>
     ensures { IfOk result (λ found. option_map plain_sets found ≡
-        sets_of (plain_order order.now) between.now (texts words.now)) }
+        sets_of (plain_format format.now) between.now (texts words.now)) }
 {
     let (part, mut rest) = first_part(words, between);
-    let Some(first) = read_set(alloc, order, part)? else {
+    let Some(first) = read_set(alloc, format, part)? else {
         return Ok(None);
     };
     let mut others = Vec::new(alloc);
     'parts: while let Some(words) = rest {
         let (part, behind) = first_part(words, between);
-        let Some(set) = read_set(alloc, order, part)? else {
+        let Some(set) = read_set(alloc, format, part)? else {
             return Ok(None);
         };
         others.push(set)?;
@@ -105,17 +115,17 @@ pub(crate) fn read_sets<'t>(
 /// Lists of sets: `or` between the lists, `and` between the sets of one.
 pub(crate) fn alternatives<'t>(
     alloc: Global,
-    order: &Order,
+    format: &VersionFormat,
     words: &[&'t str],
 ) -> Result<Option<Vec<Sets<'t>>>, AllocError>
     ensures { IfOk result (λ found. option_map plain_lists found ≡
-        alternatives_of (plain_order order.now) (texts words.now)) }
+        alternatives_of (plain_format format.now) (texts words.now)) }
 {
     let mut found = Vec::new(alloc);
     let mut rest = Some(words);
     'parts: while let Some(words) = rest {
         let (part, behind) = first_part(words, b"or");
-        let Some(together) = read_sets(alloc, order, part, b"and")? else {
+        let Some(together) = read_sets(alloc, format, part, b"and")? else {
             return Ok(None);
         };
         found.push(together)?;

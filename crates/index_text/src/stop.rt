@@ -1,11 +1,12 @@
 //! The first word of a line that can't stand there.
-ghost use Rattle.std.specs.Prelude.{◌≡◌, ◌≤◌, not, length, IfOk, IfSome, is_some};
+ghost use Rattle.std.specs.Prelude.{◌≡◌, ◌≤◌, ◌+◌, not, false, length, IfOk, IfSome, is_some};
 ghost use Rattle.std.specs.List.{list_all, prefix_len};
 ghost use Rattle.script_text.specs.Lines.{IsPrinted, is_printed};
 
 use crate::expected::Expected;
-use crate::order::{Order, ends};
-use crate::place::{Bounds, Place, Whose};
+use crate::format::VersionFormat;
+use crate::place::{LineKind, Place};
+use crate::words::without_blanks;
 use script_text::{is_word, next_word, text_of};
 use std::alloc::{AllocError, Global};
 
@@ -17,114 +18,110 @@ pub(crate) struct Stop {
     pub(crate) expected: Expected,
 }
 
-impl Stop {
-    /// What was expected before so many bytes of a line in which versions are written so.
-    fn new(left: usize, expected: Expected, order: &Order) -> Stop
-        ensures { result.left ≡ left }
-    {
-        let expected = expected.in_order(order);
-        Stop { left, expected }
+/// Where a line that can't be read stops being a line of this kind.
+pub(crate) fn line_stop(
+    alloc: Global,
+    format: &VersionFormat,
+    line: &[u8],
+    kind: LineKind,
+) -> Result<Stop, AllocError>
+    ensures within { IfOk result (λ stop. stop.left ≤ length line.now) }
+    ensures unprinted { IfOk result (λ stop. list_all is_printed line.now ≡ false
+        → stop.left + prefix_len is_printed line.now ≡ length line.now) }
+{
+    if let Some(left) = unprinted_length(line) {
+        let expected = Expected::PrintedByte;
+        return Ok(Stop { left, expected });
+    }
+    let text = without_blanks(line);
+    match kind {
+        LineKind::Request => request_stop(alloc, format, text),
+        LineKind::Version => version_stop(alloc, format, text),
     }
 }
 
-/// Where a line that is no request stops being one.
-pub(crate) fn request_stop(alloc: Global, order: &Order, line: &[u8]) -> Result<Stop, AllocError>
-    ensures { IfOk result (λ stop. stop.left ≤ length line.now) }
+/// Where words stop being a request.
+fn request_stop(alloc: Global, format: &VersionFormat, text: &[u8]) -> Result<Stop, AllocError>
+    requires { IsPrinted text.now }
+    ensures { IfOk result (λ stop. stop.left ≤ length text.now) }
 {
-    if let Some(left) = unprinted_length(line) {
-        return Ok(Stop::new(left, Expected::PrintedByte, order));
-    }
-    let text = without_blanks(line);
     match next_word(text) {
         Some((word, rest)) if is_word(word, b"request") => {
-            entries_stop(alloc, order, behind_order(order, rest), Whose::Request)
+            entries_stop(
+                alloc,
+                format,
+                behind_format(format, rest),
+                LineKind::Request,
+            )
         }
-        _ => Ok(Stop::new(text.len(), Expected::RequestFirst, order)),
+        _ => {
+            let (left, expected) = (text.len(), Expected::RequestFirst);
+            Ok(Stop { left, expected })
+        }
     }
 }
 
 /// What is behind `semver`, if versions are written so.
-fn behind_order<'t>(order: &Order, text: &'t [u8]) -> &'t [u8]
+fn behind_format<'t>(format: &VersionFormat, text: &'t [u8]) -> &'t [u8]
     ensures shorter { length result.now ≤ length text.now }
     ensures printed { IsPrinted text.now → IsPrinted result.now }
 {
-    match (order, next_word(text)) {
-        (Order::Semver(_), Some((_, rest))) => rest,
+    match (format, next_word(text)) {
+        (VersionFormat::Semver(_), Some((_, rest))) => rest,
         _ => text,
     }
 }
 
-/// Where a line that is no version stops being one.
-pub(crate) fn version_stop(alloc: Global, order: &Order, line: &[u8]) -> Result<Stop, AllocError>
-    ensures { IfOk result (λ stop. stop.left ≤ length line.now) }
-{
-    if let Some(left) = unprinted_length(line) {
-        return Ok(Stop::new(left, Expected::PrintedByte, order));
-    }
-    match next_word(line) {
-        Some((_, rest)) => number_stop(alloc, order, without_blanks(rest)),
-        None => Ok(Stop::new(0, Expected::Name, order)),
-    }
-}
-
-/// Where what is behind a name stops being a version and its entries.
-fn number_stop(alloc: Global, order: &Order, text: &[u8]) -> Result<Stop, AllocError>
+/// Where words stop being a version.
+fn version_stop(alloc: Global, format: &VersionFormat, text: &[u8]) -> Result<Stop, AllocError>
     requires { IsPrinted text.now }
     ensures { IfOk result (λ stop. stop.left ≤ length text.now) }
 {
-    let Some((word, rest)) = next_word(text) else {
-        return Ok(Stop::new(0, Expected::Version, order));
+    let Some((_, rest)) = next_word(text) else {
+        let (left, expected) = (0, Expected::Name);
+        return Ok(Stop { left, expected });
     };
-    match order.number(alloc, word)? {
-        Some(_) => entries_stop(alloc, order, rest, Whose::Version),
-        None => Ok(Stop::new(text.len(), Expected::Version, order)),
+    let rest = without_blanks(rest);
+    if let Some((word, entries)) = next_word(rest) {
+        if format.number(alloc, word)?.is_some() {
+            return entries_stop(alloc, format, entries, LineKind::Version);
+        }
     }
+    let (left, expected) = (rest.len(), Expected::Version);
+    Ok(Stop { left, expected })
 }
 
 /// Where words stop being entries.
 fn entries_stop(
     alloc: Global,
-    order: &Order,
+    format: &VersionFormat,
     words: &[u8],
-    whose: Whose,
+    kind: LineKind,
 ) -> Result<Stop, AllocError>
     requires { IsPrinted words.now }
     ensures { IfOk result (λ stop. stop.left ≤ length words.now) }
 {
-    let mut place = Place::Entry;
+    let mut place = Place::First;
     let mut text = without_blanks(words);
     while let Some((word, rest)) = next_word(text) {
-        let range = bounds(alloc, order, word)?;
-        match place.behind(text_of(word), range, whose) {
+        match place.behind(alloc, format, text_of(word), kind)? {
             Ok(next) => place = next,
-            Err(expected) => return Ok(Stop::new(text.len(), expected, order)),
+            Err(expected) => {
+                let left = text.len();
+                return Ok(Stop { left, expected });
+            }
         }
         text = without_blanks(rest);
     }
-    let missing = place.missing().unwrap_or(Expected::Entry);
-    Ok(Stop::new(0, missing, order))
-}
-
-/// What a word is as a range.
-fn bounds(alloc: Global, order: &Order, word: &[u8]) -> Result<Bounds, AllocError> {
-    let Some((low, high)) = ends(word) else {
-        return Ok(Bounds::Missing);
-    };
-    let Some(low) = order.number(alloc, low)? else {
-        return Ok(Bounds::Missing);
-    };
-    match order.number(alloc, high)? {
-        Some(high) if low <= high => Ok(Bounds::Ordered),
-        Some(_) => Ok(Bounds::TurnedRound),
-        None => Ok(Bounds::Missing),
-    }
+    let (left, expected) = (0, place.expected(kind));
+    Ok(Stop { left, expected })
 }
 
 /// How many bytes a line has from the first one on that isn't printed; none if all are printed.
 #[tactic(auto, using(crate::proofs::Printed::all_printed, crate::proofs::Printed::some_unprinted))]
-pub(crate) fn unprinted_length(line: &[u8]) -> Option<usize>
+fn unprinted_length(line: &[u8]) -> Option<usize>
     ensures printed { list_all is_printed line.now ≡ not (is_some result) }
-    ensures within { IfSome result (λ left. left ≤ length line.now) }
+    ensures left { IfSome result (λ left. left + prefix_len is_printed line.now ≡ length line.now) }
 {
     let printed = printed_length(line);
     if printed < line.len() {
@@ -144,16 +141,4 @@ fn printed_length(line: &[u8]) -> usize
         }
     }
     line.len()
-}
-
-/// A line from its first word on.
-pub(crate) fn without_blanks(line: &[u8]) -> &[u8]
-    ensures shorter { length result.now ≤ length line.now }
-    ensures printed { IsPrinted line.now → IsPrinted result.now }
-{
-    let mut text = line;
-    while let [b' ', rest @ ..] = text {
-        text = rest;
-    }
-    text
 }

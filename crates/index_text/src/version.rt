@@ -2,11 +2,11 @@
 ghost use Rattle.std.specs.Prelude.{◌≡◌, IfOk, option_map, string_bytes};
 ghost use Rattle.index_text.specs.Lines.{version_named, is_of, joined};
 ghost use Rattle.index_text.specs.Plain.{plain_version, plain_state};
-ghost use Rattle.index_text.specs.PlainOrders.{plain_order};
+ghost use Rattle.index_text.specs.PlainFormats.{plain_format};
 ghost use Rattle.index_text.specs.Sets.{texts};
 
 use crate::entry::{Entry, entries};
-use crate::order::Order;
+use crate::format::VersionFormat;
 use script_text::is_word;
 use std::alloc::{AllocError, Global};
 
@@ -32,20 +32,20 @@ pub enum State<'t> {
 /// The version of this name, from the words behind it.
 pub(crate) fn version_of<'t>(
     alloc: Global,
-    order: &Order,
+    format: &VersionFormat,
     name: &'t str,
     words: &[&'t str],
 ) -> Result<Option<Version<'t>>, AllocError>
     ensures { IfOk result (λ found. option_map plain_version found ≡
-        version_named (plain_order order.now) name.now (texts words.now)) }
+        version_named (plain_format format.now) name.now (texts words.now)) }
 {
     let [number, words @ ..] = words else {
         return Ok(None);
     };
-    let Some(version) = order.number(alloc, number.as_bytes())? else {
+    let Some(version) = format.number(alloc, number.as_bytes())? else {
         return Ok(None);
     };
-    let Some(state) = read_state(alloc, order, words)? else {
+    let Some(state) = read_state(alloc, format, words)? else {
         return Ok(None);
     };
     Ok(Some(Version {
@@ -58,10 +58,10 @@ pub(crate) fn version_of<'t>(
 /// What the words behind a name and a version say.
 fn read_state<'t>(
     alloc: Global,
-    order: &Order,
+    format: &VersionFormat,
     words: &[&'t str],
 ) -> Result<Option<State<'t>>, AllocError>
-    ensures { IfOk result (λ found. option_map plain_state found ≡ is_of (plain_order order.now) (texts words.now)) }
+    ensures { IfOk result (λ found. option_map plain_state found ≡ is_of (plain_format format.now) (texts words.now)) }
 {
     let [keyword, reason @ ..] = words else {
         return Ok(Some(State::Offered(Vec::new(alloc))));
@@ -73,7 +73,7 @@ fn read_state<'t>(
     if is_word(keyword, b"unknown") {
         return Ok(Some(State::Unknown(joined(alloc, reason)?)));
     }
-    Ok(entries(alloc, order, words)?.map(State::Offered))
+    Ok(entries(alloc, format, words)?.map(State::Offered))
 }
 
 /// Words with a blank between each and the next.

@@ -3,9 +3,10 @@ ghost use Rattle.std.specs.Prelude.{◌≡◌, ◌<◌, ◌≤◌, ◌≢◌, []
 ghost use Rattle.std.specs.List.{slice_split};
 ghost use Rattle.std.specs.Str.{bytes_eq};
 ghost use Rattle.script_text.specs.Lines.{IsPrinted};
-ghost use Rattle.script_text.specs.Words.{words as words_of};
+ghost use Rattle.script_text.specs.Words.{words as words_of, ArePrinted};
 ghost use Rattle.index_text.specs.Sets.{texts, parts_behind};
 
+use crate::word_length::word_length;
 use script_text::{is_word, text_of};
 use std::alloc::AllocError;
 
@@ -15,9 +16,9 @@ pub(crate) fn split_words<'t>(found: &mut Vec<&'t str>, line: &'t [u8]) -> Resul
     ensures { OnOk result (texts found.new.items ≡ words_of line.now) }
 {
     found.clear();
-    let mut rest = text_of(line);
+    let mut rest = line;
     while let Some((word, others)) = next_word(rest) {
-        found.push(word)?;
+        found.push(text_of(word))?;
         rest = others;
     }
     Ok(())
@@ -25,35 +26,35 @@ pub(crate) fn split_words<'t>(found: &mut Vec<&'t str>, line: &'t [u8]) -> Resul
 
 /// The first word of a line, and what is behind it; none if no word is left.
 #[inline(always)]
-fn next_word(line: &str) -> Option<(&str, &str)>
+#[tactic(auto, using(script_text::proofs::Printing::printed_parts))]
+fn next_word(line: &[u8]) -> Option<(&[u8], &[u8])>
     ensures first { MatchOption result (words_of line.now ≡ []) (λ r. words_of line.now ≡ r.0.now ∷ words_of r.1.now) }
     ensures shorter { IfSome result (λ r. length r.1.now < length line.now) }
+    ensures printed { IsPrinted line.now → IfSome result (λ r. ArePrinted r.0.now r.1.now) }
 {
     let text = without_blanks(line);
     if text.is_empty() {
         return None;
     }
-    match text.split_once(' ') {
-        Some((word, rest)) => Some((word, rest)),
-        None => Some((text, "")),
-    }
+    Some(text.split_at(word_length(text)))
 }
 
 /// A line from its first word on.
 #[inline(always)]
-fn without_blanks(line: &str) -> &str
+pub(crate) fn without_blanks(line: &[u8]) -> &[u8]
     ensures words { words_of result.now ≡ words_of line.now }
     ensures begins { IfSome (slice_get result.now 0) (λ b. b ≢ 32) }
     ensures shorter { length result.now ≤ length line.now }
+    ensures printed { IsPrinted line.now → IsPrinted result.now }
 {
     let mut text = line;
-    while let Some(rest) = text.strip_prefix(' ') {
+    while let [b' ', rest @ ..] = text {
         text = rest;
     }
     text
 }
 
-/// The words before the first one that reads so, and those behind it if there is one.
+/// The words before the first `between`, and those behind it; none if there is no such word.
 pub(crate) fn first_part<'w, 't>(
     words: &'w [&'t str],
     between: &[u8],

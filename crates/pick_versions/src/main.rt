@@ -15,14 +15,21 @@ ghost use Rattle.std.specs.Process.{exit_status};
 ghost use Rattle.example_answers.specs.Status.{status_of};
 
 use anyhow::{Result, anyhow};
-use example_answers::{Outcome, PrintFault, print_in_turn};
+use example_answers::{Outcome, PrintFault, Printer, print_in_turn};
 use options::Options;
-use remarks::{Input, Remarking};
+use remarks::Remarking;
 use std::alloc::Global;
-use std::io::Read;
+use std::io::{Read, Write};
 use std::process::ExitCode;
 use std::rt::{Files, Runtime};
 use std::{fs, io};
+
+/// A text, and what it is called.
+#[derive(Clone, Copy)]
+struct Input<'n, 't> {
+    name: &'n str,
+    bytes: &'t [u8],
+}
 
 fn main(rt: HostRuntime) -> ExitCode {
     match obey(&rt) {
@@ -71,7 +78,7 @@ fn answer_inputs(
     options: &Options<'_>,
 ) -> Result<Outcome> {
     let mut worst = Outcome::Picked;
-    let mut is_first = true;
+    let mut printer = Printer::new(io::writer(rt));
     if options.files.is_empty() {
         let mut bytes = Vec::new(alloc);
         if let Err(fault) = rt.reader().read_to_end(&mut bytes) {
@@ -81,7 +88,7 @@ fn answer_inputs(
             name: "standard input",
             bytes: &bytes,
         };
-        worst = answer_input(rt, alloc, input, options.steps, &mut is_first)?;
+        worst = answer_input(rt, alloc, input, options.steps, &mut printer)?;
     }
     for file in &options.files {
         match fs::read(rt, *file) {
@@ -90,7 +97,7 @@ fn answer_inputs(
                     name: *file,
                     bytes: &bytes,
                 };
-                worst = worst.worse(answer_input(rt, alloc, input, options.steps, &mut is_first)?);
+                worst = worst.worse(answer_input(rt, alloc, input, options.steps, &mut printer)?);
             }
             Err(fault) => {
                 eprintln!(rt; "{file:?}: {fault}")?;
@@ -102,21 +109,15 @@ fn answer_inputs(
 }
 
 /// Answers each index of an input on standard output. The worst outcome.
-fn answer_input(
-    rt: &(impl Print + Eprint),
+fn answer_input<W: Write>(
+    rt: &impl Eprint,
     alloc: Global,
     input: Input<'_, '_>,
     steps: u64,
-    is_first: &mut bool,
+    printer: &mut Printer<W>,
 ) -> Result<Outcome> {
-    let mut answering = Remarking::new(rt, steps, input);
-    let printed = print_in_turn(
-        alloc,
-        input.bytes,
-        &mut answering,
-        is_first,
-        &mut io::writer(rt),
-    );
+    let mut answering = Remarking::new(rt, steps, input.name);
+    let printed = print_in_turn(alloc, input.bytes, &mut answering, printer);
     match printed {
         Ok(worst) => Ok(worst),
         Err(PrintFault::Memory(refused)) => Err(anyhow!("{refused}")),

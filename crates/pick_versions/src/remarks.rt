@@ -1,105 +1,79 @@
 //! What is said on standard error besides an answer: why a line is unreadable, and what is noteworthy of an index.
 ghost use Rattle.example_answers.specs.Answers.{AnswersLines};
 
-use example_answers::{AnswerText, Answering, answer};
+use example_answers::{AnswerText, Answering, answer_with_notes};
 use example_index::SmallIndex;
-use index_text::{Line, diagnose, raw_line, skip_lines};
+use index_text::{Line, diagnose};
 use resolvo_pool::{Interner, ProviderFunctions};
 use std::alloc::{AllocError, Global};
 
-/// A text, and what it is called.
-#[derive(Clone, Copy)]
-pub struct Input<'n, 't> {
-    pub name: &'n str,
-    pub bytes: &'t [u8],
-}
-
 /// The search for the best solution, which says on standard error what there is to say besides its answers.
 #[derive(Drop)]
-pub struct Remarking<'r, 'n, 't, R: Eprint> {
+pub struct Remarking<'r, 'n, R: Eprint> {
     rt: &'r R,
     /// How many steps a search makes at most.
     steps: u64,
-    remarks: Remarks<'n, 't>,
+    /// What the input is called.
+    name: &'n str,
 }
 
-impl<'r, 'n, 't, R: Eprint> Remarking<'r, 'n, 't, R> {
-    /// The search in the indexes of an input.
-    pub fn new(rt: &'r R, steps: u64, input: Input<'n, 't>) -> Self {
-        Remarking {
-            rt,
-            steps,
-            remarks: Remarks::new(input),
-        }
+impl<'r, 'n, R: Eprint> Remarking<'r, 'n, R> {
+    /// The search in the indexes of an input of this name.
+    pub fn new(rt: &'r R, steps: u64, name: &'n str) -> Self {
+        Remarking { rt, steps, name }
     }
 }
 
-impl<R: Eprint> Answering for Remarking<'_, '_, '_, R> {
+impl<R: Eprint> Answering for Remarking<'_, '_, R> {
     ghost answers = { AnswersLines ⟦<SmallIndex as ProviderFunctions>⟧.functions ⟦<SmallIndex as Interner>⟧.texts };
 
     fn answer(&mut self, alloc: Global, lines: &[Line<'_>]) -> Result<AnswerText, AllocError> {
-        let answered = answer(alloc, lines, self.steps)?;
-        self.remarks.say(self.rt, alloc, lines, &answered);
+        let mut notes = String::new(alloc);
+        let answered = answer_with_notes(alloc, lines, self.steps, &mut notes)?;
+        say_fault(self.rt, alloc, self.name, lines, answered.unreadable);
+        say_notes(self.rt, self.name, lines, &notes);
         Ok(answered)
     }
 }
 
-/// An input, and the place in it from which on lines are looked for.
-#[derive(Drop)]
-struct Remarks<'n, 't> {
-    name: &'n str,
-    /// The input from the line of this number on.
-    rest: &'t [u8],
-    number: u64,
+/// Says why a line is unreadable, as far as there is memory, and standard error can be written.
+fn say_fault(
+    rt: &impl Eprint,
+    alloc: Global,
+    name: &str,
+    lines: &[Line<'_>],
+    unreadable: Option<u64>,
+) {
+    if let Some(number) = unreadable {
+        if let Ok(fault) = fault(alloc, name, lines, number) {
+            let _ = eprint!(rt; "{fault}");
+        }
+    }
 }
 
-impl<'n, 't> Remarks<'n, 't> {
-    /// An input, at its first line.
-    fn new(input: Input<'n, 't>) -> Self {
-        Remarks {
-            name: input.name,
-            rest: input.bytes,
-            number: 1,
-        }
+/// Says what is noted of the index of these lines, as far as standard error can be written.
+fn say_notes(rt: &impl Eprint, name: &str, lines: &[Line<'_>], notes: &String) {
+    let first = lines.first().map_or(1, |line| line.number);
+    for note in notes.as_str().lines() {
+        let _ = eprintln!(rt; "{name}:{first}: note: {note}");
     }
+}
 
-    /// Says what there is to say of the index of these lines besides its answer, as far as there is memory, and
-    /// standard error can be written. Indexes come in their order.
-    fn say(&mut self, rt: &impl Eprint, alloc: Global, lines: &[Line<'_>], answered: &AnswerText) {
-        if let Some(number) = answered.unreadable {
-            if let Ok(fault) = self.fault(alloc, lines, number) {
-                let _ = eprint!(rt; "{fault}");
-            }
+/// Where the line of this number is unreadable, and what was expected there; empty if it is read.
+fn fault(alloc: Global, name: &str, lines: &[Line<'_>], number: u64) -> Result<String, AllocError> {
+    match diagnose(alloc, lines, number)? {
+        Some(fault) => {
+            let (column, expected) = (fault.column, fault.expected);
+            format!(in alloc; "{name}:{number}:{column}: {expected}\n")
         }
-        let first = lines.first().map_or(1, |line| line.number);
-        for note in answered.notes.as_str().lines() {
-            let _ = eprintln!(rt; "{}:{first}: note: {note}", self.name);
-        }
-    }
-
-    /// The place of an unreadable line, and what was expected there. The line isn't before one that was looked for.
-    fn fault(
-        &mut self,
-        alloc: Global,
-        lines: &[Line<'_>],
-        number: u64,
-    ) -> Result<String, AllocError> {
-        let name = self.name;
-        self.rest = skip_lines(self.rest, number.saturating_sub(self.number));
-        self.number = self.number.max(number);
-        match diagnose(alloc, lines, number, raw_line(self.rest))? {
-            Some(fault) => {
-                let (column, expected) = (fault.column, fault.expected);
-                format!(in alloc; "{name}:{number}:{column}: {expected}\n")
-            }
-            None => Ok(String::new(alloc)),
-        }
+        None => Ok(String::new(alloc)),
     }
 }
 
 #[cfg(test)]
 mod tests {
-    use super::{Input, Remarks};
+    use super::fault;
+    use example_answers::answer_with_notes;
     use std::alloc::{AllocError, Global};
     use std::test::Fail;
 
@@ -133,11 +107,11 @@ mod tests {
             ),
             (
                 "app 1 wants b 1..2",
-                "7: expected needs, limits, favored or locked",
+                "7: expected `needs`, `limits`, `favored`, `locked`, `excluded` or `unknown`",
             ),
             (
                 "app 1 favored excluded",
-                "15: expected needs, limits, favored or locked",
+                "15: expected `needs`, `limits`, `favored` or `locked`",
             ),
             ("app 1 needs", "12: expected a package's name"),
             (
@@ -150,11 +124,11 @@ mod tests {
             ("app 1 limits b 3..1", "16: LOW may not be above HIGH"),
             (
                 "app 1 needs b 1..2 or c 1..2",
-                "20: expected |, if, needs, limits, favored or locked",
+                "20: expected `|`, `if`, `needs`, `limits`, `favored` or `locked`",
             ),
             (
                 "app 1 needs b 1..2 if c 1..2 | d 1..2",
-                "30: expected and, or, needs, limits, favored or locked",
+                "30: expected `and`, `or`, `needs`, `limits`, `favored` or `locked`",
             ),
             (
                 " web 1 favored",
@@ -164,13 +138,9 @@ mod tests {
         ] {
             let text = format!(in alloc; "{REQUEST}web 1\nweb 2\n{line}\nweb 1\n")?;
             let indexes = index_text::split(alloc, text.as_bytes())?;
-            let mut remarks = Remarks::new(Input {
-                name: "index.txt",
-                bytes: text.as_bytes(),
-            });
             assert_eq!(rt; indexes.len(), 1);
             for lines in &indexes {
-                let fault = remarks.fault(alloc, lines, 4)?;
+                let fault = fault(alloc, "index.txt", lines, 4)?;
                 assert_eq!(rt;
                     fault.as_str(),
                     format!(in alloc; "index.txt:4:{said}\n")?.as_str()
@@ -186,11 +156,20 @@ mod tests {
         for (text, said) in [
             (
                 "app 1\nrequest\n",
-                "1:1: expected the line request before all others\n",
+                "1:1: expected a request line before all others\n",
             ),
+            ("request x\n", "1:9: expected `needs`\n"),
             (
                 "request needs app 1..9 limits b 1..2\n",
-                "1:24: expected needs: a request has no other entries\n",
+                "1:24: expected `|`, `if` or `needs`\n",
+            ),
+            (
+                "request needs app 1..9 if b 1..2 favored\n",
+                "1:34: expected `and`, `or` or `needs`\n",
+            ),
+            (
+                "request semver needs app 1..2\n",
+                "1:26: expected LOW..HIGH, as 1.0.0..2.0.0\n",
             ),
             (
                 "\n# a\nrequest needs app\r\n",
@@ -198,12 +177,8 @@ mod tests {
             ),
         ] {
             let indexes = index_text::split(alloc, text.as_bytes())?;
-            let mut remarks = Remarks::new(Input {
-                name: "index.txt",
-                bytes: text.as_bytes(),
-            });
             let number = indexes[0][0].number;
-            let fault = remarks.fault(alloc, &indexes[0], number)?;
+            let fault = fault(alloc, "index.txt", &indexes[0], number)?;
             assert_eq!(rt;
                 fault.as_str(),
                 format!(in alloc; "index.txt:{said}")?.as_str()
@@ -233,7 +208,7 @@ mod tests {
         let notes = of_lines(
             alloc,
             &[
-                "no line has a package libssl",
+                "no line has the package libssl",
                 "openssl 5..6 holds no version; openssl has 1, 2, 3",
                 "app 1..1 holds no version; app has 1, 2, 3, 4, 5, ..",
             ],
@@ -241,8 +216,9 @@ mod tests {
         let indexes = index_text::split(alloc, text.as_bytes())?;
         assert_eq!(rt; indexes.len(), 1);
         for lines in &indexes {
-            let answered = example_answers::answer(alloc, lines, 1000)?;
-            assert_eq!(rt; answered.notes.as_str(), notes.as_str());
+            let mut noted = String::new(alloc);
+            let _ = answer_with_notes(alloc, lines, 1000, &mut noted)?;
+            assert_eq!(rt; noted.as_str(), notes.as_str());
         }
         Ok(())
     }
@@ -257,9 +233,13 @@ mod tests {
         let indexes = index_text::split(alloc, text.as_bytes())?;
         assert_eq!(rt; indexes.len(), 1);
         for lines in &indexes {
-            let answered = example_answers::answer(alloc, lines, 1000)?;
-            assert_eq!(rt; answered.notes.as_str().lines().count(), 21);
-            assert_eq!(rt; answered.notes.as_str().lines().last(), Some("and 5 more"));
+            let mut notes = String::new(alloc);
+            let _ = answer_with_notes(alloc, lines, 1000, &mut notes)?;
+            assert_eq!(rt; notes.as_str().lines().count(), 21);
+            assert_eq!(rt;
+                notes.as_str().lines().last(),
+                Some("and 5 more version sets")
+            );
         }
         Ok(())
     }

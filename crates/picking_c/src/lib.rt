@@ -1,14 +1,16 @@
 //! Picking versions, for programs in C, or in any language that calls C: an example.
 //!
 //! [`nivolakku_pick`] takes an index as a text, in the format of `index_text`, and answers as the program
-//! `pick_versions` does, into a buffer of the caller's. `picking.h` declares it and says how it is called; no proof
-//! covers that declaration, nor what the caller owes.
+//! `pick_versions` does, into a buffer of the caller's. [`nivolakku_versions`] takes such an answer apart. `picking.h`
+//! declares both and says how they are called; no proof covers that declaration, nor what the caller owes.
 #![tactic(auto)]
 
-ghost use Rattle.std.specs.Prelude.{◌≡◌, ◌≤◌, ◌↔◌, true, false, length, IsTrue};
+ghost use Rattle.std.specs.Prelude.{◌≡◌, length};
+ghost use Rattle.call_texts.specs.Versions.{filled, versions_in};
 ghost use Rattle.example_answers.specs.Answers.{AnswersText};
-ghost use Rattle.picking_c.specs.Calls.{IsAnswered, written};
+ghost use Rattle.picking_c.specs.Calls.{IsAnswered, TellsPicked};
 
+use call_texts::{Version, versions_in, write};
 use example_answers::{Outcome, answer_text};
 use example_index::SmallIndex;
 use resolvo_pool::{Interner, ProviderFunctions};
@@ -40,17 +42,15 @@ pub extern "C" fn nivolakku_pick(
     }
 }
 
-/// Writes a text to the start of a buffer, if that is long enough.
-fn write(text: &[u8], buffer: &mut [u8]) -> bool
-    ensures fits { IsTrue result ↔ (length text.now ≤ length buffer.old) }
-    ensures written { result ≡ true → buffer.new ≡ written text.now buffer.old }
-    ensures left { result ≡ false → buffer.new ≡ buffer.old }
+/// How many versions an answer names, and where: those of the lines below the first one, up to one that isn't a name, a
+/// blank and a version. They are put into the buffer in their order, as many as it has room for.
+#[unsafe(no_mangle)]
+pub extern "C" fn nivolakku_versions(answer: &[u8], versions: &mut [Version]) -> usize
+    ensures count { result ≡ length (versions_in answer.now) }
+    ensures filled { versions.new ≡ filled 0 (versions_in answer.now) versions.old }
+    ensures picked { TellsPicked answer.now (versions_in answer.now) }
 {
-    if text.len() > buffer.len() {
-        return false;
-    }
-    buffer[..text.len()].copy_from_slice(text);
-    true
+    versions_in(answer, versions)
 }
 
 #[cfg(test)]

@@ -1,5 +1,5 @@
 //! Numbers that stand for ids.
-ghost use Rattle.std.specs.Prelude.{◌≡◌, option_map, Some, None};
+ghost use Rattle.std.specs.Prelude.{◌≡◌, ◌∷◌, option_map, Some, None};
 ghost use Rattle.script_text.specs.Numbers.{number_of, below};
 ghost use Rattle.script_packages.specs.Ids.{requirement_of};
 
@@ -29,6 +29,19 @@ pub fn id_of<I: DenseIndex>(word: &NumberWord<'_>) -> Option<I>
         Some(I::from_index(index))
     } else {
         None
+    }
+}
+
+/// The requirement that a marked number stands for: `s` marks that of a version set, `u` that of a union.
+#[inline(always)]
+pub fn requirement_of(mark: u8, word: &NumberWord<'_>) -> Option<Requirement>
+    requires { word.now.number ≡ number_of word.now.word.now }
+    ensures { result ≡ requirement_of (mark ∷ word.now.word.now) }
+{
+    match mark {
+        b's' => Some(Requirement::Single(VersionSetId(id_of(word)?))),
+        b'u' => Some(Requirement::Union(VersionSetUnionId(id_of(word)?))),
+        _ => None,
     }
 }
 

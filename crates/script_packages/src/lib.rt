@@ -15,6 +15,6 @@ mod span_map;
 mod versions;
 
 pub use catalogue::{Catalogue, list_line, read_catalogue};
-pub use ids::{id, id_of, requirement};
+pub use ids::{id, id_of, requirement, requirement_of};
 pub use packages::{Packages, Span, VersionRange};
 pub use span_map::SpanMap;

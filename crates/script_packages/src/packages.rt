@@ -7,16 +7,16 @@ ghost use Rattle.package_pool.specs.Pool.{IsOfItself, with_string};
 ghost use Rattle.package_pool.specs.PoolProps.{pool_props};
 ghost use Rattle.script_text.specs.declared.fault.LineFault.TheVariants.{Memory, Unreadable};
 ghost use Rattle.script_text.specs.Words.{words};
-ghost use Rattle.script_text.specs.Numbers.{below};
+ghost use Rattle.script_text.specs.Numbers.{below, number_of};
 ghost use Rattle.script_packages.specs.Versions.{are_versions};
 
 use crate::catalogue_line::CatalogueLine;
-use crate::ids::id;
+use crate::ids::id_of;
 use crate::span_map::SpanMap;
 use crate::versions::{are_versions, favored_place, version_of};
 use package_pool::{Pool, VersionSet};
 use providers::Condition;
-use script_text::{LineFault, next_number, next_word};
+use script_text::{LineFault, NumberWord, next_number};
 use std::alloc::Global;
 use typed_ids::{DenseIndex, NameId, SolvableId, VersionSetId};
 
@@ -283,8 +283,8 @@ impl Packages {
     {
         let mut sets = Vec::new(self.alloc);
         let mut rest = text;
-        while let Some((word, others)) = next_word(rest) {
-            sets.push(self.set(word)?)?;
+        while let Some((word, others)) = next_number(rest) {
+            sets.push(self.set(&word)?)?;
             rest = others;
         }
         Ok(sets)
@@ -295,8 +295,8 @@ impl Packages {
         ensures { result ≡ are_sets (length self.now.pool.version_sets) (words text.now) }
     {
         let mut rest = text;
-        while let Some((word, others)) = next_word(rest) {
-            if self.set(word).is_err() {
+        while let Some((word, others)) = next_number(rest) {
+            if self.set(&word).is_err() {
                 return false;
             }
             rest = others;
@@ -304,13 +304,15 @@ impl Packages {
         true
     }
 
-    /// The version set that a word stands for.
-    fn set(&self, word: &[u8]) -> Result<VersionSetId, LineFault>
-        ensures ok { IfOk result (λ set. below (length self.now.pool.version_sets) (number_32 word.now) ≡ Some set.0) }
+    /// The version set that a word stands for whose number was read with it.
+    fn set(&self, word: &NumberWord<'_>) -> Result<VersionSetId, LineFault>
+        requires { word.now.number ≡ number_of word.now.word.now }
+        ensures ok { IfOk result (λ set.
+            below (length self.now.pool.version_sets) (number_32 word.now.word.now) ≡ Some set.0) }
         ensures unreadable { IfErr result (λ e. (e ≡ Unreadable) ×
-            (below (length self.now.pool.version_sets) (number_32 word.now) ≡ None)) }
+            (below (length self.now.pool.version_sets) (number_32 word.now.word.now) ≡ None)) }
     {
-        match id(word) {
+        match id_of(word) {
             Some(index) if self.pool.knows_version_set(VersionSetId(index)) => Ok(VersionSetId(
                 index,
             )),

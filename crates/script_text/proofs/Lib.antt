@@ -6,3 +6,4 @@ pub mod NumberWords
 pub mod Prefixes
 pub mod Printing
 pub mod Statements
+pub mod Words

@@ -21,7 +21,20 @@ pub(crate) fn first_word<'a>(line: &'a [u8], text: &[u8]) -> Option<(&'a [u8], &
     if length == 0 {
         return next_word(line);
     }
-    Some(line.split_at(length))
+    let (word, rest) = line.split_at(length);
+    Some((word, after_blank(rest)))
+}
+
+/// What is after the blank with which a text begins, or all of it, so that the next word is found at once.
+#[inline(always)]
+fn after_blank(text: &[u8]) -> &[u8]
+    ensures words { words result.now ≡ words text.now }
+    ensures printed { IsPrinted text.now → IsPrinted result.now }
+{
+    match text {
+        [b' ', rest @ ..] => rest,
+        _ => text,
+    }
 }
 
 /// How many bytes a text has before its first blank or control character, or what isn't ASCII, where that is one of the

@@ -22,7 +22,7 @@ pub use decimal::number;
 pub use device::{Sink, Source};
 pub use fault::{LineFault, ScriptFault, status};
 pub use input::{read_piece, read_whole, read_within};
-pub use number_word::{NumberWord, next_number};
+pub use number_word::{NumberWord, next_marked, next_number};
 pub use output::{write_much, write_rest};
 pub use statement::{Line, Statement, next_statement};
 pub use word::{is_word, next_word, text_of};

@@ -1,5 +1,5 @@
 //! Words that are read as numbers.
-ghost use Rattle.std.specs.Prelude.{◌≡◌, ◌<◌, [], ◌∷◌, length, MatchOption, ◌≢◌, slice_get, IfSome};
+ghost use Rattle.std.specs.Prelude.{◌≡◌, ◌<◌, ◌≤◌, [], ◌∷◌, length, MatchOption, ◌≢◌, slice_get, IfSome};
 ghost use Rattle.std.specs.Prelude.{Some};
 ghost use Rattle.script_text.specs.Numbers.{number_of};
 ghost use Rattle.script_text.specs.Words.{words};
@@ -38,6 +38,63 @@ pub fn next_number(line: &[u8]) -> Option<(NumberWord<'_>, &[u8])>
         return None;
     }
     Some(split_number(text))
+}
+
+/// The first word of a line as a mark, which is its first byte, and the word behind that, perhaps an empty one, with the
+/// number that it writes; and what is after it; none where no word is left.
+#[inline(always)]
+pub fn next_marked(line: &[u8]) -> Option<(u8, NumberWord<'_>, &[u8])>
+    ensures first { MatchOption result (words line.now ≡ [])
+        (λ r. words line.now ≡ (r.0 ∷ r.1.word.now) ∷ words r.2.now) }
+    ensures number { IfSome result (λ r. r.1.number ≡ number_of r.1.word.now) }
+    ensures shorter { MatchOption result (words line.now ≡ []) (λ r. length r.2.now < length line.now) }
+{
+    match without_blanks(line) {
+        [] => None,
+        [mark, text @ ..] => Some(split_marked(*mark, text)),
+    }
+}
+
+/// A mark, the word with its number directly behind it, and what is after that.
+#[inline(always)]
+fn split_marked(mark: u8, text: &[u8]) -> (u8, NumberWord<'_>, &[u8])
+    requires { mark ≢ 32 }
+    ensures first { words (mark ∷ text.now) ≡ (result.0 ∷ result.1.word.now) ∷ words result.2.now }
+    ensures number { result.1.number ≡ number_of result.1.word.now }
+    ensures shorter { length result.2.now ≤ length text.now }
+{
+    match text {
+        [] => mark_alone(mark, text),
+        [b' ', ..] => mark_alone(mark, text),
+        _ => mark_before_word(mark, text),
+    }
+}
+
+/// The same of a mark that is a word by itself.
+#[inline(always)]
+fn mark_alone(mark: u8, text: &[u8]) -> (u8, NumberWord<'_>, &[u8])
+    requires mark { mark ≢ 32 }
+    requires ends { IfSome (slice_get text.now 0) (λ b. b ≡ 32) }
+    ensures first { words (mark ∷ text.now) ≡ (result.0 ∷ result.1.word.now) ∷ words result.2.now }
+    ensures number { result.1.number ≡ number_of result.1.word.now }
+    ensures shorter { length result.2.now ≤ length text.now }
+{
+    let (word, rest) = text.split_at(0);
+    (mark, NumberWord { word, number: None }, rest)
+}
+
+/// The same of a mark with a word directly behind it.
+#[inline(always)]
+fn mark_before_word(mark: u8, text: &[u8]) -> (u8, NumberWord<'_>, &[u8])
+    requires mark { mark ≢ 32 }
+    requires some { 0 < length text.now }
+    requires begins { IfSome (slice_get text.now 0) (λ b. b ≢ 32) }
+    ensures first { words (mark ∷ text.now) ≡ (result.0 ∷ result.1.word.now) ∷ words result.2.now }
+    ensures number { result.1.number ≡ number_of result.1.word.now }
+    ensures shorter { length result.2.now ≤ length text.now }
+{
+    let (word, rest) = split_number(text);
+    (mark, word, rest)
 }
 
 /// The first word of a text with its number, and what is after it.

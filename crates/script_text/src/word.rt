@@ -45,6 +45,20 @@ pub(crate) fn without_blanks(line: &[u8]) -> &[u8]
     ensures shorter { length result.now ≤ length line.now }
     ensures printed { IsPrinted line.now → IsPrinted result.now }
 {
+    match line {
+        [b' ', ..] => without_some_blanks(line),
+        _ => line,
+    }
+}
+
+/// The same of a line that begins with a blank, which is seldom: mostly one blank stands between two words.
+#[inline(never)]
+fn without_some_blanks(line: &[u8]) -> &[u8]
+    ensures words { words result.now ≡ words line.now }
+    ensures begins { IfSome (slice_get result.now 0) (λ b. b ≢ 32) }
+    ensures shorter { length result.now ≤ length line.now }
+    ensures printed { IsPrinted line.now → IsPrinted result.now }
+{
     let mut text = line;
     while let [b' ', rest @ ..] = text {
         text = rest;
@@ -76,8 +90,6 @@ pub fn text_of(word: &[u8]) -> &str
     requires { IsPrinted word.now }
     ensures { result.now ≡ word.now }
 {
-    match str::from_utf8(word) {
-        Ok(text) => text,
-        Err(_) => unreachable!(),
-    }
+    // SAFETY: printed bytes are ASCII
+    unsafe { str::from_utf8_unchecked(word) }
 }

@@ -193,11 +193,10 @@ module _ {N S : Type 0} (ids : Ids N S) where
       else if bytes_eq keyword (codes "root") then bare_command Root ws
       else between_command keyword ws
 
-  -- what is said of a package's variables, and of scores
-  abbrev pub package_command : List ℕ → List (List ℕ) → Option (Command N S)
-  package_command keyword ws =
-      if bytes_eq keyword (codes "at-most-once") then at_most_once_command ws
-      else if bytes_eq keyword (codes "bump") then bump_command ws
+  -- what is said of scores
+  abbrev pub score_command : List ℕ → List (List ℕ) → Option (Command N S)
+  score_command keyword ws =
+      if bytes_eq keyword (codes "bump") then bump_command ws
       else if bytes_eq keyword (codes "decay") then decay_command ws
       else if bytes_eq keyword (codes "standard") then standard_command ws
       else seldom_command keyword ws
@@ -208,13 +207,14 @@ module _ {N S : Type 0} (ids : Ids N S) where
       if bytes_eq keyword (codes "assign") then assign_command ws
       else if bytes_eq keyword (codes "requires") then requires_command ws
       else if bytes_eq keyword (codes "load") then load_command ws
+      else if bytes_eq keyword (codes "at-most-once") then at_most_once_command ws
       else if bytes_eq keyword (codes "decide") then bare_command Decide ws
       else if bytes_eq keyword (codes "unpropagated") then bare_command Unpropagated ws
       else if bytes_eq keyword (codes "undo-until") then undo_command ws
       else if bytes_eq keyword (codes "rewatch") then rewatch_command ws
       else if bytes_eq keyword (codes "watchers") then watchers_command ws
       else if bytes_eq keyword (codes "saturate") then saturate_command ws
-      else package_command keyword ws
+      else score_command keyword ws
 
   -- the command of a line's words
   abbrev pub command_said : List ℕ → List (List ℕ) → Option (Command N S)

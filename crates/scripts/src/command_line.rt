@@ -5,7 +5,7 @@ ghost use Rattle.script_text.specs.Numbers.{below, number_of};
 ghost use Rattle.script_text.specs.Words.{words};
 ghost use Rattle.resolvo_store.specs.Command.{command_of};
 ghost use Rattle.scripts.specs.Commands.{ids_at, only_word, pair_of, pair_and_set_of, helper_origin_of};
-ghost use Rattle.scripts.specs.Commands.{command_said, plain_command, package_command, seldom_command, between_command};
+ghost use Rattle.scripts.specs.Commands.{command_said, plain_command, score_command, seldom_command, between_command};
 ghost use Rattle.scripts.specs.Commands.{bare_command};
 ghost use Rattle.scripts.specs.Commands.{variable_command, helper_command, load_command, disjunction_command};
 ghost use Rattle.scripts.specs.Commands.{requires_command, assign_command};
@@ -14,10 +14,10 @@ ghost use Rattle.scripts.specs.Commands.{watchers_command, saturate_command};
 ghost use Rattle.scripts.specs.Commands.{at_most_once_command, bump_command, decay_command, standard_command};
 ghost use Rattle.scripts.specs.Transcript.{IsRead};
 
-use crate::literal_words::{literal, literals};
+use crate::literal_words::{literal_of, literals};
 use resolvo_store::{Command, HelperOrigin};
-use script_packages::{id, id_of, requirement};
-use script_text::{LineFault, Statement, is_word, next_number, next_word, number};
+use script_packages::{id, id_of, requirement, requirement_of};
+use script_text::{LineFault, Statement, is_word, next_marked, next_number, next_word};
 use std::alloc::Allocator;
 use typed_ids::{DenseIndex, VariableId, VersionSetId};
 
@@ -56,10 +56,10 @@ fn learnt<N, S, A: Allocator>(alloc: A, text: &[u8]) -> Result<Command<N, S, A>,
 fn disjunction<N, S, A: Allocator>(alloc: A, text: &[u8]) -> Result<Command<N, S, A>, LineFault>
     ensures { IsRead (disjunction_command (words text.now)) result }
 {
-    let Some((condition, text)) = next_word(text) else {
+    let Some((condition, text)) = next_number(text) else {
         return Err(LineFault::Unreadable);
     };
-    let Some(condition) = id(condition) else {
+    let Some(condition) = id_of(&condition) else {
         return Err(LineFault::Unreadable);
     };
     match literals(alloc, text) {
@@ -82,6 +82,8 @@ fn plain_command<N: DenseIndex, S: DenseIndex, A: Allocator>(
         requires_clause(said.rest)
     } else if is_word(said.keyword, b"load") {
         load(said.rest)
+    } else if is_word(said.keyword, b"at-most-once") {
+        at_most_once(said.rest)
     } else if is_word(said.keyword, b"decide") {
         bare_command(said.rest, Command::Decide)
     } else if is_word(said.keyword, b"unpropagated") {
@@ -95,21 +97,19 @@ fn plain_command<N: DenseIndex, S: DenseIndex, A: Allocator>(
     } else if is_word(said.keyword, b"saturate") {
         saturate(said.rest)
     } else {
-        package_command(said)
+        score_command(said)
     }
 }
 
-/// The command that a statement gives, if it is one of a package's variables or of scores.
+/// The command that a statement gives, if it is one of scores.
 #[inline(always)]
-fn package_command<N: DenseIndex, S: DenseIndex, A: Allocator>(
+fn score_command<N: DenseIndex, S: DenseIndex, A: Allocator>(
     said: Statement<'_>,
 ) -> Option<Command<N, S, A>>
     ensures { option_map command_of result
-        ≡ package_command (ids_at N.limit N.id_at S.limit S.id_at) said.entry.keyword.now (words said.entry.rest.now) }
+        ≡ score_command (ids_at N.limit N.id_at S.limit S.id_at) said.entry.keyword.now (words said.entry.rest.now) }
 {
-    if is_word(said.keyword, b"at-most-once") {
-        at_most_once(said.rest)
-    } else if is_word(said.keyword, b"bump") {
+    if is_word(said.keyword, b"bump") {
         bump(said.rest)
     } else if is_word(said.keyword, b"decay") {
         decay(said.rest)
@@ -280,8 +280,11 @@ fn helper_origin<N: DenseIndex>(kind: &[u8], word: &[u8]) -> Option<HelperOrigin
 fn load<N, S, A: Allocator>(text: &[u8]) -> Option<Command<N, S, A>>
     ensures { option_map command_of result ≡ load_command (words text.now) }
 {
-    let loaded = requirement(only_word(text)?)?;
-    Some(Command::Load(loaded))
+    let (mark, required, text) = next_marked(text)?;
+    match next_word(text) {
+        Some(_) => None,
+        None => Some(Command::Load(requirement_of(mark, &required)?)),
+    }
 }
 
 /// `requires PARENT R` or `requires PARENT R DISJUNCTION`
@@ -291,14 +294,14 @@ fn requires_clause<N, S, A: Allocator>(text: &[u8]) -> Option<Command<N, S, A>>
 {
     let (parent, text) = next_number(text)?;
     let parent = id_of(&parent)?;
-    let (required, text) = next_word(text)?;
-    match next_word(text) {
-        None => Some(Command::Requires(parent, requirement(required)?, None)),
+    let (mark, required, text) = next_marked(text)?;
+    match next_number(text) {
+        None => Some(Command::Requires(parent, requirement_of(mark, &required)?, None)),
         Some((disjunction, text)) => match next_word(text) {
             Some(_) => None,
             None => {
-                let required = requirement(required)?;
-                Some(Command::Requires(parent, required, Some(id(disjunction)?)))
+                let required = requirement_of(mark, &required)?;
+                Some(Command::Requires(parent, required, Some(id_of(&disjunction)?)))
             }
         },
     }
@@ -366,10 +369,10 @@ fn bump<N: DenseIndex, S: DenseIndex, A: Allocator>(text: &[u8]) -> Option<Comma
         ≡ bump_command (ids_at N.limit N.id_at S.limit S.id_at) (words text.now) }
 {
     let (name, text) = next_number(text)?;
-    let (amount, text) = next_word(text)?;
+    let (amount, text) = next_number(text)?;
     match next_word(text) {
         Some(_) => None,
-        None => Some(Command::Bump(id_of(&name)?, number(amount)?)),
+        None => Some(Command::Bump(id_of(&name)?, amount.number?)),
     }
 }
 
@@ -378,11 +381,11 @@ fn bump<N: DenseIndex, S: DenseIndex, A: Allocator>(text: &[u8]) -> Option<Comma
 fn decay<N, S, A: Allocator>(text: &[u8]) -> Option<Command<N, S, A>>
     ensures { option_map command_of result ≡ decay_command (words text.now) }
 {
-    let (numerator, text) = next_word(text)?;
-    let (denominator, text) = next_word(text)?;
+    let (numerator, text) = next_number(text)?;
+    let (denominator, text) = next_number(text)?;
     match next_word(text) {
         Some(_) => None,
-        None => Some(Command::Decay(number(numerator)?, number(denominator)?)),
+        None => Some(Command::Decay(numerator.number?, denominator.number?)),
     }
 }
 
@@ -401,11 +404,14 @@ fn rewatch<N, S, A: Allocator>(text: &[u8]) -> Option<Command<N, S, A>>
     ensures { option_map command_of result ≡ rewatch_command (words text.now) }
 {
     let (clause, text) = next_number(text)?;
-    let (from, text) = next_word(text)?;
-    let (to, text) = next_word(text)?;
+    let (from_sign, from, text) = next_marked(text)?;
+    let (to_sign, to, text) = next_marked(text)?;
     match next_word(text) {
         Some(_) => None,
-        None => Some(Command::Rewatch(id_of(&clause)?, literal(from)?, literal(to)?)),
+        None => {
+            let (from, to) = (literal_of(from_sign, &from)?, literal_of(to_sign, &to)?);
+            Some(Command::Rewatch(id_of(&clause)?, from, to))
+        }
     }
 }
 
@@ -414,8 +420,11 @@ fn rewatch<N, S, A: Allocator>(text: &[u8]) -> Option<Command<N, S, A>>
 fn watchers<N, S, A: Allocator>(text: &[u8]) -> Option<Command<N, S, A>>
     ensures { option_map command_of result ≡ watchers_command (words text.now) }
 {
-    let watched = literal(only_word(text)?)?;
-    Some(Command::Watchers(watched))
+    let (sign, variable, text) = next_marked(text)?;
+    match next_word(text) {
+        Some(_) => None,
+        None => Some(Command::Watchers(literal_of(sign, &variable)?)),
+    }
 }
 
 /// `saturate LEVEL`

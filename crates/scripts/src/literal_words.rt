@@ -1,12 +1,13 @@
 //! Words that stand for literals.
-ghost use Rattle.std.specs.Prelude.{◌≡◌, [], IfOk, IfErr, IsSome, None};
+ghost use Rattle.std.specs.Prelude.{◌≡◌, [], ◌∷◌, IfOk, IfErr, IsSome, None};
 ghost use Rattle.script_text.specs.declared.fault.LineFault.TheVariants.{Unreadable, Memory};
+ghost use Rattle.script_text.specs.Numbers.{number_of};
 ghost use Rattle.script_text.specs.Words.{words};
 ghost use Rattle.scripts.specs.Commands.{literal_of, are_literals, with_literals};
 
 use decisions::Literal;
-use script_packages::id;
-use script_text::{LineFault, next_word};
+use script_packages::id_of;
+use script_text::{LineFault, NumberWord, next_marked};
 use std::alloc::Allocator;
 
 /// The literals in the text, in turn. Memory counts as refused only where each word is a literal.
@@ -36,8 +37,8 @@ fn literals_in_turn<A: Allocator>(alloc: A, text: &[u8]) -> Result<Vec<Literal, 
 {
     let mut literals = Vec::new(alloc);
     let mut rest = text;
-    while let Some((word, others)) = next_word(rest) {
-        match literal(word) {
+    while let Some((sign, variable, others)) = next_marked(rest) {
+        match literal_of(sign, &variable) {
             Some(literal) => literals.push(literal)?,
             None => return Err(LineFault::Unreadable),
         }
@@ -51,8 +52,8 @@ fn are_literals(text: &[u8]) -> bool
     ensures { result ≡ are_literals (words text.now) }
 {
     let mut rest = text;
-    while let Some((word, others)) = next_word(rest) {
-        if literal(word).is_none() {
+    while let Some((sign, variable, others)) = next_marked(rest) {
+        if literal_of(sign, &variable).is_none() {
             return false;
         }
         rest = others;
@@ -62,12 +63,13 @@ fn are_literals(text: &[u8]) -> bool
 
 /// A literal: `+` or `-`, and the number of its variable directly after it.
 #[inline(always)]
-pub(crate) fn literal(word: &[u8]) -> Option<Literal>
-    ensures { result ≡ literal_of word.now }
+pub(crate) fn literal_of(sign: u8, variable: &NumberWord<'_>) -> Option<Literal>
+    requires { variable.now.number ≡ number_of variable.now.word.now }
+    ensures { result ≡ literal_of (sign ∷ variable.now.word.now) }
 {
-    match word {
-        [b'+', variable @ ..] => Some(Literal::new(id(variable)?, false)),
-        [b'-', variable @ ..] => Some(Literal::new(id(variable)?, true)),
+    match sign {
+        b'+' => Some(Literal::new(id_of(variable)?, false)),
+        b'-' => Some(Literal::new(id_of(variable)?, true)),
         _ => None,
     }
 }

@@ -80,13 +80,15 @@ fn push_end(text: &mut Vec<u8>) -> Result<(), AllocError>
     Ok(())
 }
 
-/// A number; one of one digit, as most are, is put with no call.
+/// A number; one of up to five digits, as most are, is put with no call.
 #[inline(always)]
 fn push_number(text: &mut Vec<u8>, number: u64) -> Result<(), AllocError>
     ensures { Pushes result text.old.items text.new.items (decimal number) }
 {
     if number < 10 {
         push_digit(text, number)
+    } else if number < 100_000 {
+        push_few_digits(text, number)
     } else {
         push_digits(text, number)
     }
@@ -310,17 +312,41 @@ fn push_others(text: &mut Vec<u8>, others: &[VariableId]) -> Result<(), AllocErr
     Ok(())
 }
 
-/// A comma, and a number.
+/// A comma, and a number; one of up to five digits is put with the comma at once.
 #[inline(always)]
 fn push_member(text: &mut Vec<u8>, number: u64) -> Result<(), AllocError>
     ensures { Pushes result text.old.items text.new.items (codes "," ++ decimal number) }
 {
-    text.push(b',')?;
     if number < 10 {
+        text.push(b',')?;
         push_digit(text, number)
     } else if number < 100_000 {
-        push_few_digits(text, number)
+        push_few_behind_comma(text, number)
     } else {
+        text.push(b',')?;
         push_digits(text, number)
+    }
+}
+
+/// A comma, and a number of two to five digits.
+#[inline(always)]
+fn push_few_behind_comma(text: &mut Vec<u8>, number: u64) -> Result<(), AllocError>
+    requires more { 10 ≤ number }
+    requires few { number < 100000 }
+    ensures { Pushes result text.old.items text.new.items (codes "," ++ decimal number) }
+{
+    if number < 100 {
+        let [tens, ones] = pair(number);
+        text.extend_from_slice(&[b',', tens, ones])
+    } else if number < 1000 {
+        let [tens, ones] = pair(number % 100);
+        text.extend_from_slice(&[b',', b'0' + (number / 100) as u8, tens, ones])
+    } else if number < 10_000 {
+        let [thousands, hundreds, tens, ones] = four(number);
+        text.extend_from_slice(&[b',', thousands, hundreds, tens, ones])
+    } else {
+        let [thousands, hundreds, tens, ones] = four(number % 10_000);
+        let first = b'0' + (number / 10_000) as u8;
+        text.extend_from_slice(&[b',', first, thousands, hundreds, tens, ones])
     }
 }

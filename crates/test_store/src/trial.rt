@@ -143,7 +143,7 @@ fn push_answer(
     waiting: &mut Vec<u8>,
     counts: &mut Counts,
 ) -> Result<(), StoreError> {
-    waiting.extend_from_slice(b"trial")?;
+    waiting.extend_from_slice(b"trial ")?;
     waiting.extend_from_slice(trial.words)?;
     waiting.push(b'\n')?;
     if trial.is(b"cache") {

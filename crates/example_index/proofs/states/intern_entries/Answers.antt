@@ -24,3 +24,8 @@ returns-clause-are c =
     subst (λ entries. AreEntries (with_bytes c.loop-entry.pool) c.loop-entry.found (map plain_entry entries))
     (take_all c.loop-entry.entry-index c.args.entries.now (omega (arith, c.loop-entry-test.false)))
     c.loop-entry.invariant.are
+
+pub returns-in_err-intern_entry-clause-later : goal.returns-in_err-intern_entry-clause-later
+returns-in_err-intern_entry-clause-later c =
+    later_twice c.args.pool.now c.loop-entry.pool c.intern_entry.new.pool c.loop-entry.invariant.later
+    c.intern_entry.ensures.later

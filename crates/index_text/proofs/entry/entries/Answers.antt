@@ -5,7 +5,7 @@ use Rattle.index_text.proofs.Cuts.{words_left, fewer_left, shorter_some, some_le
 use Rattle.index_text.proofs.EachLemmas.{one_more}
 use Rattle.index_text.specs.Entries.{entry_of, entries_of, entries_behind}
 use Rattle.index_text.specs.Plain.{plain_entry, plain_entries}
-use Rattle.index_text.specs.PlainOrders.{plain_order}
+use Rattle.index_text.specs.PlainFormats.{plain_format}
 use Rattle.index_text.specs.Sets.{texts, each_of}
 use Rattle.index_text.proofs.entry.entries.Goals as goal
 
@@ -17,13 +17,13 @@ entries-smaller c =
 
 pub entries-preserved : goal.entries-preserved
 entries-preserved c = record {
-  entries = one_more (entry_of (plain_order c.args.order.now)) (plain_entries c.entries.found) (plain_entries c.push.new.self)
+  entries = one_more (entry_of (plain_format c.args.format.now)) (plain_entries c.entries.found) (plain_entries c.push.new.self)
       (texts c.first_entry.result.0.now) (plain_entry c.in-Some-2.entry) (entries_behind c.first_entry.result.1)
-      (entries_of (plain_order c.args.order.now) (texts c.args.words.now))
+      (entries_of (plain_format c.args.format.now) (texts c.args.words.now))
       (sym c.in_ok-entry.ensures ∙ ap (option_map plain_entry) c.in-Some-2.is)
       (ap (map plain_entry) c.in_ok-push.ensures.items
       ∙ map-append plain_entry c.entries.found.items (c.in-Some-2.entry ∷ []))
-      (ap (λ parts. option_map (λ more. plain_entries c.entries.found ++ more) (each_of (entry_of (plain_order c.args.order.now)) parts))
+      (ap (λ parts. option_map (λ more. plain_entries c.entries.found ++ more) (each_of (entry_of (plain_format c.args.format.now)) parts))
       (sym (ap entries_behind c.in-Some.is ∙ c.first_entry.ensures.first)) ∙ c.entries.invariant.entries);
   some = some_left c.first_entry.result.1 c.in-Some.words c.first_entry.ensures.shorter;
 }

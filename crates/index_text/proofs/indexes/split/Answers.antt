@@ -1,6 +1,9 @@
-use Rattle.index_text.proofs.LineLemmas.{keyword_printed}
+use Rattle.std.proofs.Common.{[], sym, subst}
+use Rattle.std.specs.Prelude.{slice_get, unwrap_or}
+use Rattle.script_text.specs.Statements.{MeansWords}
 use Rattle.index_text.proofs.indexes.split.Goals as goal
 
-pub numbered_line-requires-clause-keyword : goal.numbered_line-requires-clause-keyword
-numbered_line-requires-clause-keyword c =
-    keyword_printed c.in-Some.ensures.first.0 c.in-Some.said c.in-Some.ensures.first.2
+pub numbered_line-requires-clause-means : goal.numbered_line-requires-clause-means
+numbered_line-requires-clause-means c =
+    subst (λ lines. MeansWords (unwrap_or (slice_get lines 0) []) c.in-Some.said) (sym c.in-Some.ensures.first.1)
+    c.in-Some.ensures.first.2

@@ -3,7 +3,7 @@ use Rattle.std.specs.Prelude.{option_map, codes}
 use Rattle.std.specs.Str.{bytes_eq}
 use Rattle.index_text.proofs.Cuts.{words_left}
 use Rattle.index_text.specs.Plain.{plain_lists}
-use Rattle.index_text.specs.PlainOrders.{plain_order}
+use Rattle.index_text.specs.PlainFormats.{plain_format}
 use Rattle.index_text.specs.Sets.{texts, sets_of, alternatives_of, each_of, parts_behind}
 use Rattle.index_text.proofs.set.alternatives.Given as goal
 
@@ -11,8 +11,8 @@ use Rattle.index_text.proofs.set.alternatives.Given as goal
 abbrev pub invariant-parts : goal.invariant-parts
 invariant-parts l =
     option_map (λ more. plain_lists l.found ++ more)
-    (each_of (sets_of (plain_order l.order) (codes "and")) (parts_behind (bytes_eq (codes "or")) l.rest))
-    ≡ alternatives_of (plain_order l.order) (texts l.words)
+    (each_of (sets_of (plain_format l.format) (codes "and")) (parts_behind (bytes_eq (codes "or")) l.rest))
+    ≡ alternatives_of (plain_format l.format) (texts l.words)
 
 abbrev pub decreases-parts : goal.decreases-parts
 decreases-parts l = words_left l.rest

@@ -1,6 +1,5 @@
 use Rattle.std.proofs.Common.{◌≡◌, ◌++◌, length}
-use denote.Text.{Utf8}
-use denote.Shadow.{shadow}
+use Rattle.script_text.specs.Lines.{IsPrinted}
 use Rattle.script_text.specs.Words.{words as words_of}
 use Rattle.index_text.specs.Sets.{texts}
 use Rattle.index_text.proofs.words.split_words.Given as goal
@@ -9,7 +8,7 @@ use Rattle.index_text.proofs.words.split_words.Given as goal
 abbrev pub invariant-loop-word : goal.invariant-loop-word
 invariant-loop-word l = record {
   words : texts l.found.items ++ words_of l.rest ≡ words_of l.line;
-  text : shadow (Utf8 l.rest);
+  printed : IsPrinted l.rest;
 }
 
 abbrev pub decreases-loop-word : goal.decreases-loop-word

@@ -1,4 +1,4 @@
-use Rattle.std.proofs.Common.{◌≡◌, ◌<◌, ◌≤◌, ◌⊎◌, inl, inr, ◌∷◌, take, drop, length, arith, sym, ◌∙◌}
+use Rattle.std.proofs.Common.{◌≡◌, ◌<◌, ◌≤◌, ◌⊎◌, inl, inr, ◌∷◌, take, drop, length, arith, ap, sym, ◌∙◌}
 use Rattle.std.specs.List.{prefix_len}
 use Rattle.script_text.specs.Words.{words, is_graphic}
 use Rattle.script_text.proofs.FirstWords.{ends, first_word_ends}
@@ -17,3 +17,4 @@ returns-clause-first c =
       | inr some ↦ first_word_ends line text found k c.requires.begins some.2 some.0 some.1 (omega (arith, c.if-length-eq0.false)) c.requires.printed (ends k found (length line) c.min-length.ensures)
     ] in
     by_length c.short_length.ensures ∙ sym (λ i. c.split_at.ensures.front i ∷ words (c.split_at.ensures.back i))
+    ∙ ap (λ ws. c.split_at.result.0.now ∷ ws) (sym c.after_blank.ensures.words)

@@ -1,33 +1,23 @@
-use Rattle.std.proofs.Common.{◌≡◌, ◌∙◌, ◌<◌, length, map, Some, arith, sym, subst}
-use Rattle.std.specs.Prelude.{slice_get}
+use Rattle.std.proofs.Common.{◌∙◌, map, arith, sym}
 use Rattle.std.specs.String.{string_bytes}
+use Rattle.std.proofs.lemmas.Bool.{not-false, not-true}
 use Rattle.std.proofs.lemmas.List.{length-map}
 use Rattle.index_text.specs.Plain.{plain_version}
 use Rattle.resolvo_pool.specs.Dependencies.{needs_of}
 use Rattle.example_index.specs.Listed.{IsOf, with_bytes}
-use Rattle.example_index.proofs.Fresh.{found_is, got, added_none, added_some}
+use Rattle.example_index.proofs.Fresh.{added_none, added_some, same_known}
 use Rattle.example_index.proofs.Kept.{kept_same}
 use Rattle.example_index.proofs.Later.{later_bytes, named_here}
 use Rattle.example_index.proofs.index.SmallIndex.add_version.Goals as goal
 
-pub returns-then-has_version-clause-is : goal.returns-then-has_version-clause-is
-returns-then-has_version-clause-is c versions kept =
+pub returns-then-not-branch-clause-is : goal.returns-then-not-branch-clause-is
+returns-then-not-branch-clause-is c versions kept =
     let first = c.args.self.now.pool in
     let pool = c.intern_name-name.new.pool in
-    let packages = c.reach.new.packages.items in
-    let needs = map needs_of c.args.self.now.needs.items in
     let x = plain_version c.args.version.now in
-    let name = c.in_ok-name.name in
-    let kept_now = kept_same (with_bytes first) (with_bytes pool)
-    (later_bytes first pool c.in_ok-name.ensures.later) c.in_ok-name.ensures.solvables
-    c.args.self.now.packages.items packages needs versions c.in_ok-reach.ensures.same kept in
-    let at = got packages c.to_index-2.result c.index.result.now
-    (subst (λ i. i < length packages) (c.to_index.ensures.value ∙ sym c.to_index-2.ensures.value)
-    c.in_ok-reach.ensures.reached) c.index.ensures in
-    let at_name = subst (λ i. slice_get packages i ≡ Some c.index.result.now) c.to_index-2.ensures.value at in
-    let same = found_is (with_bytes pool) packages needs versions kept_now name x c.in_ok-name.ensures.is
-    c.index.result.now c.has_version.result at_name c.has_version.ensures in
-    added_none _ versions x (same ∙ c.if-has_version.true)
+    let same = same_known (with_bytes first) (with_bytes pool) (later_bytes first pool c.in_ok-name.ensures.later)
+    c.in_ok-name.name x c.in_ok-name.ensures.is c.args.known.now.keys c.requires versions kept.versions_are in
+    added_none _ versions x (same ∙ not-false _ (sym c.in_ok-insert.ensures.added ∙ c.if-not-branch.true))
 
 pub add_fresh-requires-clause-name : goal.add_fresh-requires-clause-name
 add_fresh-requires-clause-name c =
@@ -46,15 +36,11 @@ returns-clause-is c versions kept =
     let packages = c.reach.new.packages.items in
     let needs = map needs_of c.args.self.now.needs.items in
     let x = plain_version c.args.version.now in
-    let name = c.in_ok-name.name in
-    let kept_now = kept_same (with_bytes first) (with_bytes pool)
-    (later_bytes first pool c.in_ok-name.ensures.later) c.in_ok-name.ensures.solvables
+    let later = later_bytes first pool c.in_ok-name.ensures.later in
+    let same = same_known (with_bytes first) (with_bytes pool) later c.in_ok-name.name x c.in_ok-name.ensures.is
+    c.args.known.now.keys c.requires versions kept.versions_are in
+    let kept_now = kept_same (with_bytes first) (with_bytes pool) later c.in_ok-name.ensures.solvables
     c.args.self.now.packages.items packages needs versions c.in_ok-reach.ensures.same kept in
-    let at = got packages c.to_index-2.result c.index.result.now
-    (subst (λ i. i < length packages) (c.to_index.ensures.value ∙ sym c.to_index-2.ensures.value)
-    c.in_ok-reach.ensures.reached) c.index.ensures in
-    let at_name = subst (λ i. slice_get packages i ≡ Some c.index.result.now) c.to_index-2.ensures.value at in
-    let same = found_is (with_bytes pool) packages needs versions kept_now name x c.in_ok-name.ensures.is
-    c.index.result.now c.has_version.result at_name c.has_version.ensures in
-    added_some (IsOf c.add_fresh.new.self) versions x (same ∙ c.if-has_version.false)
+    added_some (IsOf c.add_fresh.new.self) versions x
+    (same ∙ not-true _ (sym c.in_ok-insert.ensures.added ∙ c.if-not-branch.false))
     (c.in_ok-add_fresh.ensures.is versions kept_now c.in_ok-name.ensures.is)

@@ -1,0 +1,4 @@
+pub mod Hyphens
+pub mod OrderLaws
+pub mod Numbers
+pub mod Parts
