@@ -53,6 +53,10 @@ class Relation:
     comparison: str = ""
     version: str = ""
 
+    def __str__(self):
+        name = f"{self.name}:{self.architecture}" if self.architecture else self.name
+        return f"{name} ({self.comparison} {self.version})" if self.comparison else name
+
     def holds(self, version):
         """Whether a version is one of those that it asks for."""
         if not self.comparison:
@@ -70,6 +74,12 @@ def read_relation(text):
     if not found:
         raise Fault(f"`{text}` is no relation between packages")
     return Relation(*(part or "" for part in found.groups()))
+
+
+class Union(tuple):
+    """Solvables of which one is enough, the best first, and the alternatives that ask for them."""
+
+    text = ""
 
 
 class Solvable:
@@ -97,15 +107,18 @@ class Solvable:
         return priority, self.name, -self.rank
 
 
-class Archive:
-    """All that a `Packages` file lists, which has to be of one architecture."""
+def read_fields(text):
+    """The fields of each paragraph that has some."""
+    return filter(None, (dict(FIELD.findall(paragraph)) for paragraph in re.split(r"\n\s*\n", text)))
 
-    def __init__(self, text):
+
+class Archive:
+    """All that the paragraphs of a `Packages` file list, which have to be of one architecture."""
+
+    def __init__(self, paragraphs):
         self.packages, self.architecture = {}, None
-        for paragraph in re.split(r"\n\s*\n", text):
-            fields = dict(FIELD.findall(paragraph))
-            if fields:
-                self.add(fields)
+        for fields in paragraphs:
+            self.add(fields)
         for versions in self.packages.values():
             versions.sort(key=lambda it: version_key(it.version))
             for rank, solvable in enumerate(versions, 1):
@@ -149,7 +162,9 @@ class Archive:
         return [union for union in dict.fromkeys(unions) if solvable not in union]
 
     def union(self, alternatives):
-        return tuple(dict.fromkeys(it for relation in alternatives for it in self.meeting(relation)))
+        found = Union(dict.fromkeys(it for relation in alternatives for it in self.meeting(relation)))
+        found.text = " | ".join(map(str, alternatives))
+        return found
 
     @functools.cache
     def forbidden(self, solvable):
@@ -161,9 +176,17 @@ class Archive:
         """All pairs of a solvable and one that it forbids."""
         return [(solvable, it) for solvable in self.solvables() for it in self.forbidden(solvable)]
 
-    def wanted(self, name):
-        """The solvables that meet a name that is asked for."""
-        found = self.meeting(Relation(name))
-        if not found:
-            raise Fault(f"no package is named {name}, and none provides it")
-        return found
+    def wanted(self, word):
+        """The solvables that meet a name that is asked for, or a name with a version behind a `=`. What provides the
+        name is asked for only if no package has it, and never in a version.
+        """
+        name, equals, version = word.partition("=")
+        versions = self.packages.get(name, ())
+        found = [it for it in reversed(versions) if not equals or version_key(it.version) == version_key(version)]
+        if not versions and not equals:
+            found = self.meeting(Relation(name))
+        if found:
+            return tuple(found)
+        if versions:
+            raise Fault(f"{name} has no version {version}; it has {', '.join(it.version for it in versions)}")
+        raise Fault(f"no package is named {name}" + ("" if equals else ", and none provides it"))

@@ -92,7 +92,8 @@ class Index:
 
 
 def need(union):
-    return "needs " + (" | ".join(ranges(union)) or "nothing 0..0")
+    """A need. One that nothing meets names as a package what it asks for."""
+    return "needs " + (" | ".join(ranges(union)) or f"{word(union.text)} 0..0")
 
 
 def ranges(solvables):

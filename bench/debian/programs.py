@@ -3,11 +3,13 @@ import os
 import re
 import resource
 import subprocess
-from dataclasses import dataclass
+from dataclasses import dataclass, field
 
 from archive import Fault
-from index import word
+from back import Table
 
+# How the last line begins if the steps ended before the best solution was known.
+BEST = "the best by the first "
 # What cadical ends with.
 SATISFIABLE, UNSATISFIABLE = 10, 20
 
@@ -45,12 +47,13 @@ def least(runs, words, text, limit):
 @dataclass
 class Answer:
     """What pick_versions makes of a request: the name and the version of each package that it picks, or what it says
-    where it picks none.
+    where it picks none, and why.
     """
 
     picked: list
     said: str
     seconds: float
+    reasons: list = field(default_factory=list)
 
     def lines(self):
         return [" ".join(version) for version in self.picked] or [self.said]
@@ -69,12 +72,11 @@ class PickVersions:
         ran = least(runs, [self.path], index.text(), self.limit)
         if ran.status is None:
             return Answer([], f"stopped after {self.limit} seconds", ran.seconds)
-        solvables = {f"{word(it.name)} {it.rank}": it for it in index.solvables}
-        lines = ran.text.splitlines()[1:]
-        if lines and all(line in solvables for line in lines):
-            return Answer([(solvables[line].name, solvables[line].version) for line in lines], "", ran.seconds)
-        said = [line for line in lines if line not in solvables]
-        return Answer([], said[0] if said else "nothing", ran.seconds)
+        lines, table = [line for line in ran.text.splitlines()[1:] if not line.startswith(BEST)], Table.of_index(index)
+        if lines and all(table.solvable(line.split(" ")) for line in lines):
+            return Answer([tuple(table.line(line).split(" ")) for line in lines], "", ran.seconds)
+        said = [line for line in lines if not table.solvable(line.split(" "))] or ["nothing"]
+        return Answer([], said[0], ran.seconds, list(map(table.line, said[1:])))
 
     def instructions(self, index):
         """How many instructions it takes, as valgrind counts them, or none where it can't."""
@@ -100,7 +102,7 @@ class Debcheck:
 
     def check(self, request):
         """Whether a version of each package can be installed beside the others, and its seconds."""
-        ran = run([*self.words, request])
+        ran = run([*self.words, ",".join(re.sub("=(.*)", r" (= \1)", name) for name in request.split(","))])
         counts = dict(re.findall(r"^(total|broken)-tuples: (\d+)", ran.text, re.MULTILINE))
         if len(counts) < 2:
             raise Fault(f"dose-debcheck ended with {ran.status} for {request}")
