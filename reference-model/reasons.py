@@ -40,7 +40,7 @@ def said_by(index):
     for version in index.marked["excluded"]:
         yield f"{said(version)} is excluded", [clause_of([version], [])]
     for version in index.marked["unknown"]:
-        yield f"{said(version)} needs what can't be told", [clause_of([version], [])]
+        yield f"what {said(version)} needs is unknown", [clause_of([version], [])]
     for name, locked in index.locked.items():
         others = set(index.of_name(name)) - {locked}
         yield f"{said(locked)} is locked", [clause_of([other], []) for other in others]

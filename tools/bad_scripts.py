@@ -1,5 +1,5 @@
 """What tools/bad-input gives the repository's scripts: files that aren't there, that are folders, and that are no text;
-and programs that can't be started, and that write no text.
+programs that can't be started, and that write no text; and words that they don't take.
 
 A script has to say in a sentence what is wrong, and to end with a status that isn't 0.
 """
@@ -12,9 +12,14 @@ import subprocess
 
 from bad_runs import LIMIT, PANICS, Run
 
+# Where scripts are.
+FOLDERS = "tools mutants bench bench/debian bench/parts bench/unproved reference-model examples examples/python".split()
 # Commands that name a file or a program, which is bad: `{}` stands for it.
 NAMES_FILE = """
 reference-model/answer {}
+reference-model/replay {} {certificate}
+reference-model/replay {index} {}
+tools/release --repository {} {missing}
 bench/debian/convert {} git
 bench/debian/convert --back {}
 bench/debian/judge {}
@@ -71,6 +76,37 @@ mutants/run {}
 mutants/run --since {}
 mutants/together {}
 """
+# Commands with words that they don't take, or without some that they need.
+WRONG_WORDS = """
+reference-model/replay {index}
+reference-model/replay --self-test 1
+reference-model/replay {table} {certificate}
+bench/debian/agree 1
+bench/debian/convert
+bench/debian/convert {packages}
+bench/debian/convert {packages} other
+bench/debian/convert {packages} dash=2
+bench/debian/convert --dimacs {packages} dash dash
+bench/debian/convert --back {table} {packages}
+bench/debian/convert --table {directory} {packages} dash
+bench/debian/judge
+bench/debian/run --draw -1 /bin/true
+bench/debian/run --packages {packages} --request dash=2 /bin/true
+bench/debian/run --seconds dash /bin/true
+mutants/changed
+mutants/run --since
+mutants/without-quick-answers
+mutants/write-edits
+mutants/write-edits picking/other
+tools/embed
+tools/embed {binary}
+tools/embed {missing} 7th
+tools/embed {missing} picking
+tools/embed --store
+tools/release
+"""
+# Words that no script takes.
+NO_WORDS = ("--nonsense", "a b c d e f")
 # Commands that read standard input, which is bad.
 READS = """
 reference-model/answer
@@ -82,6 +118,8 @@ TEXTS = {
     "answer": "request:dash:\ndash 2\n",
     "packages": "Package: dash\nVersion: 1\nArchitecture: all\n",
     "table": "request dash\ndash 1 dash 1\n",
+    "index": "request needs a 1..2\n",
+    "certificate": "c certificate 1 6\np cnf 0 1\nc because request needs a 1..2\n0\nc learnt 1\n0\n",
     "noise": "#!/bin/sh\nexec cat \"$(dirname \"$0\")/binary\"\n",
 }
 # As in most places: what isn't UTF-8 is no text.
@@ -102,9 +140,18 @@ def bad_files(room):
     return files | {"cat": pathlib.Path(shutil.which("cat"))}
 
 
-def commands():
+def all_scripts(top):
+    """Each script of the repository."""
+    files = (file for folder in FOLDERS for file in sorted((top / folder).iterdir()))
+    return [file for file in files if file.is_file() and os.access(file, os.X_OK)]
+
+
+def commands(top):
     """Each command, with what it is given there, and whether that is its standard input."""
+    for script in all_scripts(top):
+        yield from ((f"{script.relative_to(top)} {words}", "answer", False) for words in NO_WORDS)
     for lines, kinds in (
+        (WRONG_WORDS, ("answer",)),
         (NAMES_FILE, FILES),
         (NAMES_PROGRAM, (*FILES, "program", "noise", "cat")),
         (MEASURES_PROGRAM, (*FILES, "program")),
@@ -121,7 +168,7 @@ def script_runs(top, room, text):
     place = room / "files"
     place.mkdir()
     files = bad_files(place)
-    for line, kind, is_input in commands():
+    for line, kind, is_input in commands(top):
         if text in f"{line}: {kind}":
             yield script_run(top, files, line, kind, is_input)
     shutil.rmtree(place)

@@ -1,70 +1,90 @@
-//! Safe Rust over the proved library: what `picking.h` declares, and what its caller owes.
-use std::error::Error;
-use std::fmt;
+//! Picks versions, and runs scripts of the clause store, by Nivolakku's proved libraries.
+//!
+//! [`Index::pick`] answers in Rust's types, and [`script`] gives the transcript of a script. [`calls`] has the functions
+//! of the libraries, over buffers of the caller's.
+pub mod calls;
+mod fault;
 
-/// What became of an index.
-#[derive(Clone, Copy, Debug, PartialEq, Eq)]
-pub enum Outcome {
-    /// Versions are picked, and are a solution.
-    Picked = 0,
-    /// There is no solution.
-    NoSolution = 1,
-    /// The search made too many steps, or memory was refused.
-    GaveUp = 2,
-    /// A line isn't in the format, or the text has no index, or several.
-    Unreadable = 3,
+pub use calls::Outcome;
+pub use fault::{PickError, ScriptError};
+
+/// How far a search may go unless it is told.
+pub const STEPS: u64 = 1_000_000;
+
+/// The room of a first buffer.
+const FIRST_ROOM: usize = 4096;
+
+/// A package and its version.
+#[derive(Clone, Debug, PartialEq, Eq, Hash, PartialOrd, Ord)]
+pub struct Picked {
+    pub name: String,
+    pub version: String,
 }
 
-/// Why there is no answer: it takes so many bytes, and the buffer has fewer.
-#[derive(Clone, Copy, Debug, PartialEq, Eq)]
-pub struct TooSmall {
-    pub needed: usize,
+/// A text with one index: what is requested, and which versions there are.
+#[derive(Clone, Copy, Debug)]
+pub struct Index<'a> {
+    text: &'a [u8],
+    steps: u64,
 }
 
-impl fmt::Display for TooSmall {
-    fn fmt(&self, f: &mut fmt::Formatter<'_>) -> fmt::Result {
-        write!(f, "{} bytes are needed", self.needed)
+impl<'a> Index<'a> {
+    /// The index of a text.
+    pub fn new(text: &'a (impl AsRef<[u8]> + ?Sized)) -> Self {
+        let text = text.as_ref();
+        Index { text, steps: STEPS }
+    }
+
+    /// The same, whose search may make so many steps.
+    pub fn with_steps(self, steps: u64) -> Self {
+        Index { steps, ..self }
+    }
+
+    /// The versions that are picked.
+    pub fn pick(self) -> Result<Vec<Picked>, PickError> {
+        let (outcome, answer) = self.answer();
+        match outcome {
+            Outcome::Picked => Ok(picked_in(&answer)),
+            other => Err(PickError::of(other, &answer)),
+        }
+    }
+
+    /// What became of the index, and the text that `pick_versions` prints for it.
+    pub fn answer(self) -> (Outcome, Vec<u8>) {
+        with_room(|buffer| calls::pick(self.text, self.steps, buffer))
     }
 }
 
-impl Error for TooSmall {}
-
-// In `picking_c` this is `nivolakku_pick(alloc, index: &[u8], steps: u64, answer: &mut [u8], needed: &mut usize)`, and
-// its status a `u32`. A slice crosses as a pointer and then a length, and `alloc` takes no bytes. Nothing compares the
-// two declarations.
-unsafe extern "C" {
-    fn nivolakku_pick(
-        index: *const u8,
-        length: usize,
-        steps: u64,
-        answer: *mut u8,
-        room: usize,
-        needed: *mut usize,
-    ) -> u32;
+/// The transcript of a script: a line for each command.
+pub fn script(text: impl AsRef<[u8]>) -> Result<String, ScriptError> {
+    let (ended, transcript) = with_room(|buffer| calls::script(text.as_ref(), buffer));
+    ScriptError::check(ended, String::from_utf8_lossy(&transcript).into_owned())
 }
 
-/// Answers the index of a text in so many steps at most, at the start of a buffer: what became of it, and the answer's
-/// length.
-pub fn pick(index: &[u8], steps: u64, buffer: &mut [u8]) -> Result<(Outcome, usize), TooSmall> {
-    let mut needed = 0;
-    // SAFETY: the declaration above fits `picking_c`, whose function requires nothing. The pointers and lengths are
-    // those of two slices and a number, borrowed for the call, and what is written is borrowed for it alone.
-    let status = unsafe {
-        nivolakku_pick(
-            index.as_ptr(),
-            index.len(),
-            steps,
-            buffer.as_mut_ptr(),
-            buffer.len(),
-            &mut needed,
-        )
+/// The versions that an answer names.
+fn picked_in(answer: &[u8]) -> Vec<Picked> {
+    let mut places = vec![calls::Version::default(); calls::versions(answer, &mut [])];
+    calls::versions(answer, &mut places);
+    let text = |from: usize, length: usize| {
+        String::from_utf8_lossy(&answer[from..from + length]).into_owned()
     };
-    let outcome = match status {
-        0 => Outcome::Picked,
-        1 => Outcome::NoSolution,
-        2 => Outcome::GaveUp,
-        3 => Outcome::Unreadable,
-        _ => return Err(TooSmall { needed }),
+    let picked = |place: &calls::Version| Picked {
+        name: text(place.name, place.name_length),
+        version: text(place.version, place.version_length),
     };
-    Ok((outcome, needed))
+    places.iter().map(picked).collect()
+}
+
+/// What a call answers, in a buffer that is long enough.
+fn with_room<T>(call: impl Fn(&mut [u8]) -> Result<(T, usize), calls::TooSmall>) -> (T, Vec<u8>) {
+    let mut buffer = vec![0; FIRST_ROOM];
+    loop {
+        match call(&mut buffer) {
+            Ok((told, length)) => {
+                buffer.truncate(length);
+                return (told, buffer);
+            }
+            Err(small) => buffer.resize(small.needed, 0),
+        }
+    }
 }

@@ -3,7 +3,7 @@
 //! The answer is printed, and the exit status is what became of the index, or 4 if the file can't be read, a word is no
 //! number, or the answer can't be printed. If a first buffer of ROOM bytes is too small, a second one has the size that
 //! the answer needs.
-use pick::pick;
+use nivolakku::calls::pick;
 use std::error::Error;
 use std::ffi::OsString;
 use std::io::{self, Write};
