@@ -1,8 +1,8 @@
 //! The transcript of a script, for programs in C, or in any language that calls C: an example.
 //!
 //! [`nivolakku_script`] takes a whole script, gives its commands to a clause store, and answers as the program
-//! `clause_store` does, into a buffer of the caller's. `script.h` declares it and says how it is called; no proof covers
-//! that declaration, nor what the caller owes. It frees all memory that it takes: so it holds a dialogue, whose answers
+//! `clause_store` does, into a buffer of the caller's. `script.h` declares it and says how it is called; no proof
+//! covers that declaration, nor what the caller owes. It frees all memory that it takes: so it holds a dialogue, whose answers
 //! are those of `scripts::script`, which is for programs that exit then.
 #![tactic(auto)]
 
@@ -19,8 +19,8 @@ use std::alloc::Global;
 /// The status of a transcript that takes more room than there is.
 const TOO_SMALL: u32 = 4;
 
-/// Obeys the commands of a whole script, and answers each by a line. At the first unreadable line the line that names it
-/// is written, and nothing more is obeyed.
+/// Obeys the commands of a whole script, and answers each by a line. At the first unreadable line the line that names
+/// it is written, and nothing more is obeyed.
 #[unsafe(no_mangle)]
 pub extern "C" fn nivolakku_script(
     alloc: Global,
