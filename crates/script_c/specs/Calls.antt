@@ -9,8 +9,8 @@ use Rattle.script_dialogs.specs.DialogEnds.{DialogAnswers}
 abbrev pub too_small : ℕ
 too_small = 4
 
--- by a script's lines: the buffer before and after, the size that is needed, and the status. The text is what a dialogue
--- writes that ends so
+-- by a script's lines: the buffer before and after, the size that is needed, and the status. The text is what a
+-- dialogue writes that ends so
 pub record IsTranscribed (lines : List (List ℕ)) (old new : List ℕ) (needed status : ℕ) : Type 0 where
   pub ended : Result (Unit {0}) ScriptFault
   pub text : List ℕ

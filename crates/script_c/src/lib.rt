@@ -2,8 +2,8 @@
 //!
 //! [`nivolakku_script`] takes a whole script, gives its commands to a clause store, and answers as the program
 //! `clause_store` does, into a buffer of the caller's. `script.h` declares it and says how it is called; no proof
-//! covers that declaration, nor what the caller owes. It frees all memory that it takes: so it holds a dialogue, whose answers
-//! are those of `scripts::script`, which is for programs that exit then.
+//! covers that declaration, nor what the caller owes. It frees all memory that it takes: so it holds a dialogue, whose
+//! answers are those of `scripts::script`, which is for programs that exit then.
 #![tactic(auto)]
 
 ghost use Rattle.std.specs.Prelude.{[], Some};

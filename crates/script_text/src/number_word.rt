@@ -40,8 +40,8 @@ pub fn next_number(line: &[u8]) -> Option<(NumberWord<'_>, &[u8])>
     Some(split_number(text))
 }
 
-/// The first word of a line as a mark, which is its first byte, and the word behind that, perhaps an empty one, with the
-/// number that it writes; and what is after it; none where no word is left.
+/// The first word of a line as a mark, which is its first byte, and the word behind that, perhaps an empty one, with
+/// the number that it writes; and what is after it; none where no word is left.
 #[inline(always)]
 pub fn next_marked(line: &[u8]) -> Option<(u8, NumberWord<'_>, &[u8])>
     ensures first { MatchOption result (words line.now ≡ [])

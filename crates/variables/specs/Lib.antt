@@ -1,3 +1,4 @@
 pub mod Forgetting
+pub mod OriginRecord
 pub mod VariableTexts
 pub mod Variables

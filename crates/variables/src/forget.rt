@@ -5,7 +5,7 @@ ghost use Rattle.variables.specs.declared.variable_origin.VariableOrigin.{Variab
 ghost use Rattle.variables.specs.Forgetting.{forgotten};
 ghost use Rattle.variables.specs.Variables.{variable_of_solvable};
 
-use crate::variable_origin::VariableOrigin;
+use crate::stored_origin::StoredOrigin;
 use id_maps::{IdMap, Slot, SolverId};
 use std::alloc::Allocator;
 
@@ -26,7 +26,7 @@ fn forget_solvable<S: SolverId<A>, A: Allocator + Copy>(
 
 /// Forgets the last variable.
 fn forget_last<N: Copy, S: SolverId<A>, A: Allocator + Copy>(
-    origins: &mut Vec<VariableOrigin<N, S>, A>,
+    origins: &mut Vec<StoredOrigin<N, S>, A>,
     slots: &mut S::Slots,
 )
     requires agrees { (s : S) → S.Slots.value_at slots.old s ≡ variable_of_solvable S.eq origins.old.items s }
@@ -36,8 +36,8 @@ fn forget_last<N: Copy, S: SolverId<A>, A: Allocator + Copy>(
     ensures last { (o : VariableOrigin N S) × (origins.old.items ≡ origins.new.items ++ o ∷ []) }
 {
     match origins.pop() {
-        Some(origin) => {
-            if let Some(solvable) = origin.as_solvable() {
+        Some(last) => {
+            if let Some(solvable) = last.origin().as_solvable() {
                 forget_solvable(slots, solvable, origins.len() as u32);
             }
         }
@@ -47,7 +47,7 @@ fn forget_last<N: Copy, S: SolverId<A>, A: Allocator + Copy>(
 
 /// Forgets the variables from `count` on.
 pub(crate) fn forget_rest<N: Copy, S: SolverId<A>, A: Allocator + Copy>(
-    origins: &mut Vec<VariableOrigin<N, S>, A>,
+    origins: &mut Vec<StoredOrigin<N, S>, A>,
     slots: &mut S::Slots,
     count: usize,
 )

@@ -9,6 +9,7 @@ mod forget;
 mod info;
 mod lists;
 mod origin_text;
+mod stored_origin;
 mod variable_map;
 mod variable_origin;
 

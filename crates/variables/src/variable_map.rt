@@ -5,6 +5,7 @@ ghost use Rattle.typed_ids.specs.WithRoot.{root_or};
 ghost use Rattle.typed_ids.specs.declared.error.StoreError.TheVariants.{OutOfMemory};
 
 use crate::forget::forget_rest;
+use crate::stored_origin::{OriginRecord, StoredOrigin};
 use crate::variable_origin::VariableOrigin;
 use id_maps::{IdMap, Slot, SolverId};
 use providers::Requirement;
@@ -15,7 +16,7 @@ use typed_ids::{DenseIndex, SolvableIdOrRoot, StoreError, VariableId, VersionSet
 /// The variables. A contract sees the list of their origins: a variable is its place in it.
 #[derive(Drop)]
 pub struct VariableMap<N: Copy, S: SolverId<A>, A: Allocator + Copy> {
-    origins: Vec<VariableOrigin<N, S>, A>,
+    origins: Vec<StoredOrigin<N, S>, A>,
     /// The variable of each solvable.
     slots: S::Slots,
 }
@@ -45,7 +46,7 @@ impl<N: Copy, S: SolverId<A>, A: Allocator + Copy> VariableMap<N, S, A> {
         ensures err { IfErr result (λ e. e ≡ OutOfMemory) }
     {
         let mut origins = Vec::new(alloc);
-        origins.push(VariableOrigin::Root)?;
+        origins.push(StoredOrigin(OriginRecord::Root))?;
         Ok(VariableMap {
             origins,
             slots: <S::Slots as IdMap<S, Slot, A>>::new(alloc),
@@ -67,7 +68,7 @@ impl<N: Copy, S: SolverId<A>, A: Allocator + Copy> VariableMap<N, S, A> {
         ensures origin { slice_get self.now variable ≡ Some result }
         ensures distinct { IfSome (solvable_of result) (λ s. variable_of_solvable S.eq self.now s ≡ Some variable) }
     {
-        self.origins[variable.to_index()]
+        self.origins[variable.to_index()].origin()
     }
 
     /// The variable of the solvable, if it has one.
@@ -98,7 +99,8 @@ impl<N: Copy, S: SolverId<A>, A: Allocator + Copy> VariableMap<N, S, A> {
             return Err(StoreError::IdSpace);
         }
         self.slots.make_room(solvable)?;
-        self.origins.push(VariableOrigin::Solvable(solvable))?;
+        self.origins
+            .push(StoredOrigin(OriginRecord::Solvable(solvable)))?;
         self.slots.put(solvable, Slot::new(Some(index as u32)));
         Ok(VariableId::from_index(index))
     }
@@ -128,7 +130,7 @@ impl<N: Copy, S: SolverId<A>, A: Allocator + Copy> VariableMap<N, S, A> {
         ensures err { OnErr result (self.new ≡ self.old) }
         ensures ids { FailsWhereOut (are_variables_out (length self.old)) result }
     {
-        self.alloc(VariableOrigin::ForbidMultiple(name))
+        self.alloc(StoredOrigin(OriginRecord::ForbidMultiple(name)))
     }
 
     /// A new variable for that some solvable of the package is part of the solution.
@@ -138,7 +140,7 @@ impl<N: Copy, S: SolverId<A>, A: Allocator + Copy> VariableMap<N, S, A> {
         ensures err { OnErr result (self.new ≡ self.old) }
         ensures ids { FailsWhereOut (are_variables_out (length self.old)) result }
     {
-        self.alloc(VariableOrigin::AtLeastOne(name))
+        self.alloc(StoredOrigin(OriginRecord::AtLeastOne(name)))
     }
 
     /// A new variable for that a solvable outside the version set is part of the solution.
@@ -151,7 +153,7 @@ impl<N: Copy, S: SolverId<A>, A: Allocator + Copy> VariableMap<N, S, A> {
         ensures err { OnErr result (self.new ≡ self.old) }
         ensures ids { FailsWhereOut (are_variables_out (length self.old)) result }
     {
-        self.alloc(VariableOrigin::ConstrainsViolation(set))
+        self.alloc(StoredOrigin(OriginRecord::ConstrainsViolation(set)))
     }
 
     /// A new variable that stands for the requirement's candidates.
@@ -164,7 +166,7 @@ impl<N: Copy, S: SolverId<A>, A: Allocator + Copy> VariableMap<N, S, A> {
         ensures err { OnErr result (self.new ≡ self.old) }
         ensures ids { FailsWhereOut (are_variables_out (length self.old)) result }
     {
-        self.alloc(VariableOrigin::RequiresGate(requirement))
+        self.alloc(StoredOrigin::gate(requirement))
     }
 
     /// Forgets the variables from index `count` on. Takes no memory; linear in what it forgets.
@@ -176,7 +178,7 @@ impl<N: Copy, S: SolverId<A>, A: Allocator + Copy> VariableMap<N, S, A> {
     }
 
     /// A new variable of this origin, at the end.
-    fn alloc(&mut self, origin: VariableOrigin<N, S>) -> Result<VariableId, StoreError>
+    fn alloc(&mut self, origin: StoredOrigin<N, S>) -> Result<VariableId, StoreError>
         requires { key_of origin ≡ None }
         ensures variable { IfOk result (λ v. v ≡ length self.old) }
         ensures ok { OnOk result (self.new ≡ self.old ++ origin ∷ []) }

@@ -75,7 +75,7 @@ impl<D: DependencyProvider + Drop> SolverCache<D> {
     }
 
     /// The candidates of its package that a version set holds, or, if `inverse`, the others.
-    fn filtered(
+    pub(super) fn filtered(
         &mut self,
         set: VersionSetId,
         inverse: bool,

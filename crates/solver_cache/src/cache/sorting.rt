@@ -16,9 +16,10 @@ impl<D: DependencyProvider + Drop> SolverCache<D> {
     ghost use Rattle.providers.specs.Provider.{matching, sets_of, knows_requirement};
     ghost use Rattle.providers.specs.Requirement.{same_requirement};
     ghost use Rattle.providers.specs.declared.requirement.Requirement.TheVariants.{Single, Union};
-    ghost use Rattle.solver_cache.specs.Cache.{is_set_queried, is_cached, list_at, listed, sorted_of};
+    ghost use Rattle.solver_cache.specs.Cache.{is_set_queried, is_cached, list_at, listed, sorted_of_set, sorted_of};
     ghost use Rattle.solver_cache.specs.Outcomes.{AnswersSorted, AnswersRequirement, AnswersLists, AnswersSets};
-    ghost use Rattle.solver_cache.specs.Outcomes.{SortsSets, RefusesSorted, RefusesSets};
+    ghost use Rattle.solver_cache.specs.Outcomes.{QueriesPackage, SortsSets};
+    ghost use Rattle.solver_cache.specs.Outcomes.{RefusesFiltered, RefusesSorted, RefusesSets};
 
     /// The candidates of a requirement: of each of its version sets, one after the other, those that it holds, best
     /// first. The first refusal ends the call.
@@ -78,6 +79,26 @@ impl<D: DependencyProvider + Drop> SolverCache<D> {
                 })
             }
         }
+    }
+
+    /// The candidates that a version set holds, best first, in a list of the caller's own. The cache keeps the answer
+    /// for the package, and no list of the version set.
+    pub fn sorted_candidates_for_version_set(
+        &mut self,
+        set: VersionSetId,
+    ) -> Result<Vec<D::SolvableId, D::Alloc>, CacheError<D::Cancel>>
+        requires { (D.universe self.old.provider).knows_set set ≡ true }
+        ensures package { OnOk result (QueriesPackage
+            (⟦<D as ProviderFunctions>⟧.functions self.old.provider) (D.may_answer self.old.provider)
+            D.SolvableId.Set.has self.old set self.new) }
+        ensures list { IfOk result (λ list. list.items ≡
+            sorted_of_set (⟦<D as ProviderFunctions>⟧.functions self.old.provider) set) }
+        ensures refused { IfErr result (λ e. RefusesFiltered
+            (⟦<D as ProviderFunctions>⟧.functions self.old.provider) (D.may_answer self.old.provider)
+            D.SolvableId.Set.has self.old set e self.new) }
+    {
+        let list = self.filtered(set, false)?;
+        Ok(self.best_first(set, list)?)
     }
 
     /// The candidates of a union.
@@ -199,6 +220,24 @@ impl<D: DependencyProvider + Drop> SolverCache<D> {
         self.list(id)
     }
 
+    /// Candidates of a version set's package, which was asked for: best first.
+    fn best_first(
+        &self,
+        set: VersionSetId,
+        list: Vec<D::SolvableId, D::Alloc>,
+    ) -> Result<Vec<D::SolvableId, D::Alloc>, StoreError>
+        requires known { (D.universe self.now.provider).knows_set set ≡ true }
+        requires queried { is_set_queried (⟦<D as ProviderFunctions>⟧.functions self.now.provider) self.now set ≡ true }
+        requires solvables { All (λ s. (D.universe self.now.provider).knows_solvable s ≡ true) list.items }
+        ensures ok { IfOk result (λ ordered. ordered.items ≡ favored_first D.SolvableId.eq
+            ((D.answers self.now.provider).favored ((D.universe self.now.provider).set_name set))
+            ((D.answers self.now.provider).order list.items)) }
+        ensures memory { IfErr result (λ e. e ≡ OutOfMemory) }
+    {
+        let favored = self.favored(set);
+        put_in_order(&self.provider, self.alloc, list, favored)
+    }
+
     /// The favored candidate of a version set's package, which was asked for.
     fn favored(&self, set: VersionSetId) -> Option<D::SolvableId>
         requires known { (D.universe self.now.provider).knows_set set ≡ true }
@@ -225,7 +264,22 @@ fn in_order<D: DependencyProvider>(
         favored_first D.SolvableId.eq favored ((D.answers provider.now).order solvables.now)) }
     ensures memory { IfErr result (λ e. e ≡ OutOfMemory) }
 {
-    let mut list = Vec::from_slice(alloc, solvables)?;
+    let list = Vec::from_slice(alloc, solvables)?;
+    put_in_order(provider, alloc, list, favored)
+}
+
+/// Puts a list in the order of preference, but the favored one, where it is among them, first.
+fn put_in_order<D: DependencyProvider>(
+    provider: &D,
+    alloc: D::Alloc,
+    mut list: Vec<D::SolvableId, D::Alloc>,
+    favored: Option<D::SolvableId>,
+) -> Result<Vec<D::SolvableId, D::Alloc>, StoreError>
+    requires { All (λ s. (D.universe provider.now).knows_solvable s ≡ true) list.items }
+    ensures ok { IfOk result (λ ordered. ordered.items ≡
+        favored_first D.SolvableId.eq favored ((D.answers provider.now).order list.items)) }
+    ensures memory { IfErr result (λ e. e ≡ OutOfMemory) }
+{
     provider.sort_candidates(alloc, &mut list)?;
     put_favored_first(&mut list, favored);
     Ok(list)
