@@ -4,7 +4,7 @@ import re
 from best import better_than, spare, unneeded
 from indexes import said
 from reading import Unreadable
-from reasons import is_reason
+from reasons import is_reason, spare_ones
 
 # The last line of an answer that isn't shown to be the best by all wishes.
 UP_TO = re.compile("the best by the first ([0-9]{1,20}) of ([0-9]{1,20}) wishes")
@@ -33,7 +33,10 @@ def fault_of_none(index, reasons):
     solutions = index.solutions()
     if solutions:
         return f"there is a solution: {listed(solutions[0])}"
-    return None if is_reason(index, reasons) else "a reason isn't so, or they don't suffice"
+    if not is_reason(index, reasons):
+        return "a reason isn't so, or they don't suffice"
+    spare_lines = spare_ones(index, reasons)
+    return f"these reasons are spare: {', '.join(spare_lines)}" if spare_lines else None
 
 
 def fault_of_picked(index, lines):

@@ -27,6 +27,11 @@ def is_enough(index, lines):
     return not can_be_met([clause for clause in clauses if clause is not None])
 
 
+def spare_ones(index, lines):
+    """Those of these lines without which the others are enough."""
+    return [line for line in lines if is_enough(index, [other for other in lines if other != line])]
+
+
 def said_by(index):
     """Each line that the index says, with its clauses, which are made when they are read. Two needs may be told by one
     line.

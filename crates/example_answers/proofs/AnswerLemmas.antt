@@ -1,16 +1,21 @@
 -- What follows from what a search answers.
-use Rattle.std.proofs.Common.{◌≡◌, ◌∙◌, ℕ, List, [], ◌++◌, length, vec_len, ap, subst, append_assoc}
+use Rattle.std.proofs.Common.{◌≡◌, ◌∙◌, ℕ, List, [], ◌++◌, codes, length, vec_len, ap, subst, append_assoc}
 use Rattle.std.proofs.lemmas.List.{length-map}
 use Rattle.resolvo_pool.specs.Functions.{Provider}
 use Rattle.resolvo_pool.specs.Texts.{Texts}
 use Rattle.resolvo_pool.specs.Types.ConditionalRequirement.{ConditionalRequirement}
 use Rattle.solutions.specs.Newest.{newest}
 use Rattle.solutions.specs.Wishes.{rank}
+use Rattle.solutions.specs.declared.reason.Reason.{Reason}
+use Rattle.picking.specs.Answers.{FindsNone, GivesEnough, GivesSo}
 use Rattle.picking.specs.Answers.{PicksBest, PicksNeeded, PicksNoneSpare, PicksRanked, PicksSolution}
 use Rattle.picking.specs.declared.finding.Answer.{Answer}
 use Rattle.picking.specs.declared.finding.Answer.TheVariants as Search
 use Rattle.picking.specs.declared.finding.Choice.{Choice}
-use Rattle.example_answers.specs.Answers.{IsPicked, SaysSolution, best_line, header, lines_of}
+use Rattle.picking.specs.declared.finding.Refutation.{Refutation}
+use Rattle.example_answers.specs.Answers.{IsPicked, IsRefuted, SaysNoSolution, SaysSolution}
+use Rattle.example_answers.specs.Answers.{best_line, header, lines_of}
+use Rattle.example_answers.specs.Reasons.{text_of_reason}
 
 -- three texts, each behind the one before
 pub in_turn : (a b c text-0 text-1 text-2 text-3 : List ℕ) → text-0 ≡ [] → text-1 ≡ text-0 ++ a → text-2 ≡ text-1 ++ b
@@ -52,4 +57,28 @@ says_solution p texts requested picked shown best_up_to wishes text-0 text-1 tex
       is = in_turn header (lines_of texts.solvable picked) (best_line best_up_to (length (newest p requested)))
           text-0 text-1 text-2 text-3 none first (second ∙ ap (λ s. text-1 ++ lines_of texts.solvable s) same)
           (third ∙ ap (λ n. text-2 ++ best_line best_up_to n) all);
+    }
+
+-- what a search promises of its reasons
+pub refuted_is : {N S A : Type 0} (p : Provider N S) (requested : List ConditionalRequirement)
+    (answer : Answer N S A) (refutation : Refutation N S A) → answer ≡ Search.Unsolvable refutation
+    → FindsNone p requested answer → GivesSo p requested answer → GivesEnough p answer
+    → IsRefuted p requested refutation.reasons.items
+refuted_is p requested answer refutation is none so enough = record {
+  none = subst (λ a. FindsNone p requested a) is none;
+  are_so = subst (λ a. GivesSo p requested a) is so;
+  are_enough = subst (λ a. GivesEnough p a) is enough;
+}
+
+-- the text of why there is no solution
+pub says_no_solution : {N S : Type 0} (p : Provider N S) (texts : Texts N S) (requested : List ConditionalRequirement)
+    (reasons shown : List (Reason N S)) (text-0 text-1 text-2 text-3 : List ℕ) → IsRefuted p requested reasons
+    → shown ≡ reasons → text-0 ≡ [] → text-1 ≡ text-0 ++ header → text-2 ≡ text-1 ++ codes "none\n"
+    → text-3 ≡ text-2 ++ lines_of (text_of_reason p.universe texts) shown → SaysNoSolution p texts requested text-3
+says_no_solution p texts requested reasons shown text-0 text-1 text-2 text-3 is_refuted same none first second third =
+    record {
+      reasons = reasons;
+      is_refuted = is_refuted;
+      is = in_turn header (codes "none\n") (lines_of (text_of_reason p.universe texts) reasons) text-0 text-1 text-2
+          text-3 none first second (third ∙ ap (λ r. text-2 ++ lines_of (text_of_reason p.universe texts) r) same);
     }

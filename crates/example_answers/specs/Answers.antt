@@ -9,9 +9,10 @@ use Rattle.resolvo_pool.specs.Texts.{Texts}
 use Rattle.resolvo_pool.specs.Types.ConditionalRequirement.{ConditionalRequirement}
 use Rattle.solutions.specs.Needed.{IsNeeded}
 use Rattle.solutions.specs.Newest.{newest}
+use Rattle.solutions.specs.Reasons.{AreEnough, AreSo}
 use Rattle.solutions.specs.Solutions.{IsSolution, IsUnsolvable}
 use Rattle.solutions.specs.Wishes.{IsBest, NoneSpare}
-use Rattle.picking.specs.declared.reason.Reason.{Reason}
+use Rattle.solutions.specs.declared.reason.Reason.{Reason}
 use Rattle.example_index.specs.Listed.{IsIndex}
 use Rattle.example_index.specs.declared.index.SmallIndex.{SmallIndex}
 use Rattle.example_answers.specs.Reasons.{text_of_reason}
@@ -52,11 +53,18 @@ pub record SaysSolution {N S : Type 0} (p : Provider N S) (texts : Texts N S) (r
   pub is_picked : IsPicked p requested picked best_up_to
   pub is : text ≡ header ++ (lines_of texts.solvable picked ++ best_line best_up_to (length (newest p requested)))
 
--- that there is no solution, which is so, and a line for each of some reasons
+-- there is no solution: these reasons are so, and no choice of versions meets them all
+pub record IsRefuted {N S : Type 0} (p : Provider N S) (requested : List ConditionalRequirement)
+    (reasons : List (Reason N S)) : Type 0 where
+  pub none : IsUnsolvable p requested
+  pub are_so : AreSo p requested reasons
+  pub are_enough : AreEnough p reasons
+
+-- that there is no solution, and a line for each of the reasons
 pub record SaysNoSolution {N S : Type 0} (p : Provider N S) (texts : Texts N S)
     (requested : List ConditionalRequirement) (text : List ℕ) : Type 0 where
-  pub none : IsUnsolvable p requested
   pub reasons : List (Reason N S)
+  pub is_refuted : IsRefuted p requested reasons
   pub is : text ≡ header ++ (codes "none\n" ++ lines_of (text_of_reason p.universe texts) reasons)
 
 -- why a search gave up

@@ -8,9 +8,9 @@ use Rattle.resolvo_pool.specs.Types.Condition.TheVariants as Cond
 use Rattle.resolvo_pool.specs.Types.ConditionalRequirement.{ConditionalRequirement}
 use Rattle.resolvo_pool.specs.Types.Requirement.{Requirement}
 use Rattle.resolvo_pool.specs.Types.Requirement.TheVariants.{Single}
-use Rattle.picking.specs.declared.reason.Reason.{Reason}
-use Rattle.picking.specs.declared.reason.Reason.TheVariants.{Needs, Lacks, Limits, Unknown, Excluded}
-use Rattle.picking.specs.declared.reason.Reason.TheVariants.{Locked, OneVersion}
+use Rattle.solutions.specs.declared.reason.Reason.{Reason}
+use Rattle.solutions.specs.declared.reason.Reason.TheVariants.{Needs, Lacks, Limits, Unknown, Excluded}
+use Rattle.solutions.specs.declared.reason.Reason.TheVariants.{Locked, OneVersion}
 
 module _ {N S : Type 0} (universe : Universe N S) (texts : Texts N S) where
   abbrev pub text_of_name : N → List ℕ

@@ -6,8 +6,8 @@
 //! no solution is better, a last line tells by how many wishes none is.
 //!
 //! All of that is proved of the text of the answer, for the text of the index: what is picked is the best solution of
-//! what the index's lines say, after `none` there is no solution, and a line that is called unreadable is
-//! (`specs/Answers`; `specs/Reasons` has a reason's line). That the reasons are true is not proved.
+//! what the index's lines say, after `none` there is no solution, the reasons are true and enough, and a line that is
+//! called unreadable is (`specs/Answers`; `specs/Reasons` has a reason's line).
 //!
 //! [`answer_with_notes`] also notes version sets that no version is in. [`answer_all`] prints the answers of all
 //! indexes of an input, in turn (`specs/Printed`).

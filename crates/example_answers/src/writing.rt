@@ -30,14 +30,14 @@ pub(crate) fn write_answer<D: DependencyProvider>(
             write_best(alloc, choice.best_up_to, choice.ranks.len(), text)?;
             Ok(Outcome::Picked)
         }
-        Answer::Unsolvable(reasons) => {
+        Answer::Unsolvable(refutation) => {
             text.push_str("none\n")?;
-            write_reasons(provider, &reasons, text)?;
+            write_reasons(provider, &refutation.reasons, text)?;
             Ok(Outcome::NoSolution)
         }
-        Answer::Uncertified(reasons) => {
+        Answer::Uncertified(refutation) => {
             text.push_str("gave up: that there is no solution isn't shown\n")?;
-            write_reasons(provider, &reasons, text)?;
+            write_reasons(provider, &refutation.reasons, text)?;
             Ok(Outcome::GaveUp)
         }
         Answer::StepsUsed => {

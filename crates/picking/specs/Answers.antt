@@ -1,22 +1,32 @@
 -- What an answer says. N are the names, S the solvables.
-use Rattle.std.specs.Prelude.{◌≡◌, All, List, map, take, ⊤}
+use Rattle.std.specs.Prelude.{◌≡◌, true, All, List, map, take, ⊤}
 use Rattle.resolvo_pool.specs.Functions.{Provider}
 use Rattle.resolvo_pool.specs.Types.ConditionalRequirement.{ConditionalRequirement}
 use Rattle.solutions.specs.Needed.{IsNeeded}
+use Rattle.solutions.specs.Reasons.{AreEnough, AreSo, NoReasonSpare}
 use Rattle.solutions.specs.Solutions.{IsSolution, IsUnsolvable}
 use Rattle.solutions.specs.Wishes.{IsBest, NoneSpare, rank}
 use Rattle.solutions.specs.declared.wish.Alternative.{Alternative}
 use Rattle.picking.specs.declared.finding.Answer.{Answer}
 use Rattle.picking.specs.declared.finding.Answer.TheVariants.{Picked, Unsolvable, Uncertified, StepsUsed, NotASolution}
 use Rattle.picking.specs.declared.finding.Choice.{Choice}
+use Rattle.picking.specs.declared.finding.Refutation.{Refutation}
 
 -- what is picked has this
 abbrev pub IfPicked : {N S A : Type 0} → (Choice S A → Type 0) → Answer N S A → Type 0
 IfPicked Has (Picked choice) = Has choice
-IfPicked Has (Unsolvable reasons) = ⊤
-IfPicked Has (Uncertified reasons) = ⊤
+IfPicked Has (Unsolvable refutation) = ⊤
+IfPicked Has (Uncertified refutation) = ⊤
 IfPicked Has StepsUsed = ⊤
 IfPicked Has NotASolution = ⊤
+
+-- if it says that there is no solution, what it says of that has this
+abbrev pub IfUnsolvable : {N S A : Type 0} → (Refutation N S A → Type 0) → Answer N S A → Type 0
+IfUnsolvable Has (Picked choice) = ⊤
+IfUnsolvable Has (Unsolvable refutation) = Has refutation
+IfUnsolvable Has (Uncertified refutation) = ⊤
+IfUnsolvable Has StepsUsed = ⊤
+IfUnsolvable Has NotASolution = ⊤
 
 module _ {N S A : Type 0} (p : Provider N S) (requested : List ConditionalRequirement) where
   -- what is picked is a solution
@@ -25,11 +35,11 @@ module _ {N S A : Type 0} (p : Provider N S) (requested : List ConditionalRequir
 
   -- if it says that there is no solution, there is none
   abbrev pub FindsNone : Answer N S A → Type 0
-  FindsNone (Picked choice) = ⊤
-  FindsNone (Unsolvable reasons) = IsUnsolvable p requested
-  FindsNone (Uncertified reasons) = ⊤
-  FindsNone StepsUsed = ⊤
-  FindsNone NotASolution = ⊤
+  FindsNone = IfUnsolvable (λ refutation. IsUnsolvable p requested)
+
+  -- the reasons that it gives are so
+  abbrev pub GivesSo : Answer N S A → Type 0
+  GivesSo = IfUnsolvable (λ refutation. AreSo p requested refutation.reasons.items)
 
   module _ (wishes : List (List (Alternative S))) where
     -- no solution is better, by as many wishes as it says
@@ -47,3 +57,12 @@ module _ {N S A : Type 0} (p : Provider N S) (requested : List ConditionalRequir
 -- the ranks are what they are called
 abbrev pub PicksRanked : {N S A : Type 0} → Provider N S → List (List (Alternative S)) → Answer N S A → Type 0
 PicksRanked p wishes = IfPicked (λ choice. choice.ranks.items ≡ map (rank p choice.solvables.items) wishes)
+
+-- no choice of solvables meets all reasons that it gives
+abbrev pub GivesEnough : {N S A : Type 0} → Provider N S → Answer N S A → Type 0
+GivesEnough p = IfUnsolvable (λ refutation. AreEnough p refutation.reasons.items)
+
+-- if it says that none of the reasons is spare, none is
+abbrev pub GivesNoneSpare : {N S A : Type 0} → Provider N S → Answer N S A → Type 0
+GivesNoneSpare p =
+    IfUnsolvable (λ refutation. refutation.none_spare ≡ true → NoReasonSpare p refutation.reasons.items)

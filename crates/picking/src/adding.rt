@@ -1,14 +1,14 @@
 //! The clauses that a search adds to its store, each with the reason that it is noted with.
 use crate::deciding::{Required, Requirements};
-use crate::reason::Reason;
 use crate::search::Result;
 use crate::search_store::SearchStore;
 use resolvo_clauses::Literal;
 use resolvo_ids::{
     ClauseId, ConditionId, DisjunctionId, Mapping, StringId, VariableId, VersionSetId,
 };
-use resolvo_pool::{Candidates, ConditionalRequirement, Requirement};
+use resolvo_pool::{ConditionalRequirement, Requirement};
 use resolvo_store::HelperOrigin;
+use solutions::Reason;
 use std::alloc::Allocator;
 
 /// What a parent needs, and the reason that says so.
@@ -16,6 +16,8 @@ use std::alloc::Allocator;
 pub(crate) struct Need<N, S> {
     pub(crate) parent: VariableId,
     pub(crate) requirement: Requirement,
+    /// The requirement's place in what the parent needs.
+    pub(crate) place: usize,
     pub(crate) reason: Reason<N, S>,
 }
 
@@ -24,8 +26,8 @@ pub(crate) struct Need<N, S> {
 pub(crate) struct Encoded<T: SearchStore> {
     /// The reason of each clause.
     pub(crate) reasons: Mapping<ClauseId, Reason<T::NameId, T::SolvableId>, T::Alloc>,
-    /// The solvable of each clause that says that it isn't allowed.
-    pub(crate) forbidden: Mapping<ClauseId, T::SolvableId, T::Alloc>,
+    /// The solvable of each clause that says that its package doesn't have it.
+    pub(crate) unlisted: Mapping<ClauseId, T::SolvableId, T::Alloc>,
     pub(crate) requirements: Requirements<T::Alloc>,
 }
 
@@ -33,11 +35,11 @@ impl<T: SearchStore> Encoded<T> {
     /// Nothing is encoded.
     pub(crate) fn new(alloc: T::Alloc) -> Result<Self> {
         let reasons = Mapping::new(alloc)?;
-        let forbidden = Mapping::new(alloc)?;
+        let unlisted = Mapping::new(alloc)?;
         let requirements = Requirements::new(alloc)?;
         Ok(Encoded {
             reasons,
-            forbidden,
+            unlisted,
             requirements,
         })
     }
@@ -57,35 +59,29 @@ impl<T: SearchStore> Encoded<T> {
         self.reasons.insert(clause, need.reason)?;
         let required = Required {
             requirement: need.requirement,
+            place: need.place,
             gates,
             clause,
         };
         self.requirements.add(need.parent, required)
     }
 
-    /// Makes a solvable false if its package excludes it, or is locked to another one.
-    pub(crate) fn exclude_or_lock(
+    /// Makes a solvable's variable false for each of these reasons: its package excludes it, or is locked to another
+    /// one.
+    pub(crate) fn ban(
         &mut self,
         store: &mut T,
         variable: VariableId,
-        solvable: T::SolvableId,
-        package: &Candidates<T::SolvableId, T::Alloc>,
+        bans: &[Reason<T::NameId, T::SolvableId>],
     ) -> Result<()> {
-        for (excluded, reason) in &package.excluded {
-            if *excluded == solvable {
-                let why = Reason::Excluded(solvable, *reason);
-                let clause = self.exclude(store, variable, *reason, why)?;
-                self.forbidden.insert(clause, solvable)?;
+        for reason in bans {
+            match reason {
+                Reason::Excluded(_, string) => self.exclude(store, variable, *string, *reason)?,
+                Reason::Locked(locked) => self.lock(store, *locked, variable)?,
+                _ => {}
             }
         }
-        match package.locked {
-            Some(locked) if locked != solvable => {
-                let clause = self.lock(store, locked, variable)?;
-                self.forbidden.insert(clause, solvable)?;
-                Ok(())
-            }
-            _ => Ok(()),
-        }
+        Ok(())
     }
 
     /// Makes the variable false of a solvable that its package doesn't have. It is locked out by itself: there is no
@@ -97,7 +93,7 @@ impl<T: SearchStore> Encoded<T> {
         solvable: T::SolvableId,
     ) -> Result<()> {
         let clause = store.lock(variable, variable)?.clause;
-        self.forbidden.insert(clause, solvable)?;
+        self.unlisted.insert(clause, solvable)?;
         Ok(())
     }
 
@@ -117,30 +113,25 @@ impl<T: SearchStore> Encoded<T> {
         Ok(())
     }
 
-    /// Makes a variable false, for the reason that the string says. Answers the clause.
+    /// Makes a variable false, for the reason that the string says.
     pub(crate) fn exclude(
         &mut self,
         store: &mut T,
         variable: VariableId,
         string: StringId,
         reason: Reason<T::NameId, T::SolvableId>,
-    ) -> Result<ClauseId> {
+    ) -> Result<()> {
         let clause = store.exclude(variable, string)?.clause;
         self.reasons.insert(clause, reason)?;
-        Ok(clause)
+        Ok(())
     }
 
-    /// Makes a variable false, since its package is locked to another solvable. Answers the clause.
-    fn lock(
-        &mut self,
-        store: &mut T,
-        locked: T::SolvableId,
-        variable: VariableId,
-    ) -> Result<ClauseId> {
+    /// Makes a variable false, since its package is locked to another solvable.
+    fn lock(&mut self, store: &mut T, locked: T::SolvableId, variable: VariableId) -> Result<()> {
         let first = store.variable(locked)?;
         let clause = store.lock(first, variable)?.clause;
         self.reasons.insert(clause, Reason::Locked(locked))?;
-        Ok(clause)
+        Ok(())
     }
 }
 

@@ -15,6 +15,8 @@ const GAIN: u64 = 1 << 16;
 #[derive(Drop)]
 pub(crate) struct Required<A: Allocator> {
     pub(crate) requirement: Requirement,
+    /// The requirement's place in what the variable's solvable, or the request, needs.
+    pub(crate) place: usize,
     /// The requirement counts only while these are all true.
     pub(crate) gates: Vec<VariableId, A>,
     pub(crate) clause: ClauseId,

@@ -2,7 +2,6 @@
 use crate::adding::{Encoded, Need, add_disjunction, add_gate, reason_for};
 use crate::package_source::PackageSource;
 use crate::progress::Progress;
-use crate::reason::Reason;
 use crate::search::Result;
 use crate::search_store::SearchStore;
 use resolvo_clauses::VariableOrigin;
@@ -10,6 +9,7 @@ use resolvo_ids::{
     ConditionId, DenseIndex, IndexedSet, Mapping, StoreError, VariableId, VersionSetId,
 };
 use resolvo_pool::{ConditionalRequirement, Dependencies, Requirement};
+use solutions::Reason;
 
 /// A store has fewer variables than this.
 const MOST_VARIABLES: usize = (1 << 31) - 1;
@@ -132,7 +132,7 @@ impl<T: SearchStore, P: PackageSource<T::NameId, T::SolvableId, T::Alloc> + Drop
         Ok(())
     }
 
-    /// Lets no other version stand beside a solvable, and makes it false if its package excludes it.
+    /// Lets no other version stand beside a solvable, and makes it false if its package rules it out.
     fn introduce(
         &mut self,
         store: &mut T,
@@ -143,10 +143,11 @@ impl<T: SearchStore, P: PackageSource<T::NameId, T::SolvableId, T::Alloc> + Drop
         let Some(name) = self.packages.name(solvable) else {
             return Err(StoreError::UnknownId);
         };
-        store.at_most_once(name, variable)?;
-        let package = self.packages.package(name)?;
-        self.encoded
-            .exclude_or_lock(store, variable, solvable, package)
+        if self.packages.is_one_version(name) {
+            store.at_most_once(name, variable)?;
+        }
+        let bans = self.packages.bans(name, solvable)?;
+        self.encoded.ban(store, variable, &bans)
     }
 
     /// Encodes the dependencies of a variable's solvable, unless they are encoded. Answers whether it did.
@@ -178,8 +179,7 @@ impl<T: SearchStore, P: PackageSource<T::NameId, T::SolvableId, T::Alloc> + Drop
             }
             Dependencies::Unknown(reason) => {
                 let why = Reason::Unknown(solvable, reason);
-                self.encoded.exclude(store, variable, reason, why)?;
-                Ok(())
+                self.encoded.exclude(store, variable, reason, why)
             }
         }
     }
@@ -190,8 +190,8 @@ impl<T: SearchStore, P: PackageSource<T::NameId, T::SolvableId, T::Alloc> + Drop
         parent: &Parent<T::SolvableId>,
         requirements: &[ConditionalRequirement],
     ) -> Result<()> {
-        for conditional in requirements {
-            self.require(store, parent, *conditional)?;
+        for (place, conditional) in requirements.iter().enumerate() {
+            self.require(store, parent, place, *conditional)?;
         }
         Ok(())
     }
@@ -201,6 +201,7 @@ impl<T: SearchStore, P: PackageSource<T::NameId, T::SolvableId, T::Alloc> + Drop
         &mut self,
         store: &mut T,
         parent: &Parent<T::SolvableId>,
+        place: usize,
         conditional: ConditionalRequirement,
     ) -> Result<()> {
         let condition = conditional.condition;
@@ -208,6 +209,7 @@ impl<T: SearchStore, P: PackageSource<T::NameId, T::SolvableId, T::Alloc> + Drop
         let need = Need {
             parent: parent.variable,
             requirement: conditional.requirement,
+            place,
             reason: reason_for(store, parent.solvable, conditional),
         };
         match condition {

@@ -2,53 +2,49 @@
 use crate::adding::Encoded;
 use crate::notes::{Antecedent, Notes};
 use crate::progress::Progress;
-use crate::reason::Reason;
 use crate::search::Result;
 use crate::search_store::SearchStore;
 use crate::wishing::{VariableValue, Wishes};
 use resolvo_clauses::{Literal, VariableOrigin};
 use resolvo_ids::{ClauseId, IndexedSet, VariableId};
-use solutions::{Evidence, PackageLiteral};
+use solutions::{Evidence, PackageLiteral, Reason};
 use std::alloc::Allocator;
 
 /// What a search shows, to be replayed.
 #[derive(Drop)]
-pub(crate) struct Shown<S, A: Allocator> {
-    /// The solvables whose dependencies that takes, and those that aren't allowed.
-    solvables: Vec<S, A>,
-    /// Learnt clauses: each follows by unit propagation from the encoded clauses and from those before it.
-    learnt: Vec<Vec<PackageLiteral<S>, A>, A>,
+pub(crate) struct Shown<N, S, A: Allocator> {
+    /// What it follows from in the end.
+    pub(crate) reasons: Vec<Reason<N, S>, A>,
+    /// Solvables that wishes name, and that their packages don't have.
+    unlisted: Vec<S, A>,
+    /// Learnt clauses: each follows by unit propagation from the reasons and from those before it.
+    pub(crate) learnt: Vec<Vec<PackageLiteral<S>, A>, A>,
 }
 
-impl<S, A: Allocator + Copy> Shown<S, A> {
+impl<N, S, A: Allocator + Copy> Shown<N, S, A> {
     /// Nothing.
     pub(crate) fn new(alloc: A) -> Self {
         Shown {
-            solvables: Vec::new(alloc),
+            reasons: Vec::new(alloc),
+            unlisted: Vec::new(alloc),
             learnt: Vec::new(alloc),
         }
     }
 
-    /// As it is checked.
-    pub(crate) fn evidence(&self) -> Evidence<'_, S, A> {
+    /// As it is checked that no solution is better.
+    pub(crate) fn evidence(&self) -> Evidence<'_, N, S, A> {
         Evidence {
-            solvables: &self.solvables,
+            reasons: &self.reasons,
+            unlisted: &self.unlisted,
             learnt: &self.learnt,
         }
-    }
-
-    /// How many clauses were learnt for it.
-    pub(crate) fn len(&self) -> usize {
-        self.learnt.len()
     }
 }
 
 /// That there is no solution.
 #[derive(Drop)]
-pub(crate) struct Refutation<N, S, A: Allocator> {
-    pub(crate) shown: Shown<S, A>,
-    /// What it follows from in the end.
-    pub(crate) reasons: Vec<Reason<N, S>, A>,
+pub(crate) struct NoneShown<N, S, A: Allocator> {
+    pub(crate) shown: Shown<N, S, A>,
     /// How many steps are left.
     pub(crate) steps: u64,
 }
@@ -108,25 +104,18 @@ impl<A: Allocator + Copy> Trace<A> {
     }
 }
 
-/// That there is no solution, and why. The reasons are what the clauses that were seen say, each once, in the order in
-/// which they were encoded; then the packages of which at most one version may be picked.
+/// That there is no solution, and why.
 pub(crate) fn why_none<T: SearchStore>(
     progress: &Progress<T>,
     encoded: &Encoded<T>,
     notes: &Notes<T::SolvableId, T::Alloc>,
     steps: u64,
-) -> Result<Refutation<T::NameId, T::SolvableId, T::Alloc>> {
+) -> Result<NoneShown<T::NameId, T::SolvableId, T::Alloc>> {
     let mut trace = Trace::new(progress.alloc);
     trace.pending.extend_from_slice(&notes.root_cause)?;
     follow_all(progress, notes, &mut trace)?;
-    let mut reasons = told(progress.alloc, encoded, &trace)?;
-    let shown = what_is_shown(encoded, notes, &trace, &reasons)?;
-    add_packages(progress, &trace.seen, &mut reasons)?;
-    Ok(Refutation {
-        shown,
-        reasons,
-        steps,
-    })
+    let shown = what_is_shown(progress, encoded, notes, &trace)?;
+    Ok(NoneShown { shown, steps })
 }
 
 /// That no alternative of a wish that is false can be so, beside what is so of the wishes before.
@@ -135,14 +124,13 @@ pub(crate) fn why_none_better<T: SearchStore>(
     encoded: &Encoded<T>,
     notes: &Notes<T::SolvableId, T::Alloc>,
     wishes: &Wishes<T::Alloc>,
-) -> Result<Shown<T::SolvableId, T::Alloc>> {
+) -> Result<Shown<T::NameId, T::SolvableId, T::Alloc>> {
     let mut trace = Trace::new(progress.alloc);
     for place in 0..wishes.len() {
         trace.add_values(wishes.false_ones(&progress.store, place))?;
     }
     follow_all(progress, notes, &mut trace)?;
-    let reasons = told(progress.alloc, encoded, &trace)?;
-    what_is_shown(encoded, notes, &trace, &reasons)
+    what_is_shown(progress, encoded, notes, &trace)
 }
 
 /// Why the alternatives of one wish that are false can't be so.
@@ -155,26 +143,29 @@ pub(crate) fn why_not_better<T: SearchStore>(
     let mut trace = Trace::new(progress.alloc);
     trace.add_values(values)?;
     follow_all(progress, notes, &mut trace)?;
-    let mut reasons = told(progress.alloc, encoded, &trace)?;
-    add_packages(progress, &trace.seen, &mut reasons)?;
-    Ok(reasons)
+    told(progress, encoded, &trace)
 }
 
-/// What a trace shows, whose reasons are these.
+/// What a trace shows.
 fn what_is_shown<T: SearchStore>(
+    progress: &Progress<T>,
     encoded: &Encoded<T>,
     notes: &Notes<T::SolvableId, T::Alloc>,
     trace: &Trace<T::Alloc>,
-    reasons: &[Reason<T::NameId, T::SolvableId>],
-) -> Result<Shown<T::SolvableId, T::Alloc>> {
-    let mut solvables = dependents(notes.alloc, reasons)?;
+) -> Result<Shown<T::NameId, T::SolvableId, T::Alloc>> {
+    let reasons = told(progress, encoded, trace)?;
+    let mut unlisted = Vec::new(progress.alloc);
     for clause in &trace.seen {
-        if let Some(solvable) = encoded.forbidden.get(*clause) {
-            solvables.push(*solvable)?;
+        if let Some(solvable) = encoded.unlisted.get(*clause) {
+            unlisted.push(*solvable)?;
         }
     }
     let learnt = notes.package_literals(&trace.clauses)?;
-    Ok(Shown { solvables, learnt })
+    Ok(Shown {
+        reasons,
+        unlisted,
+        learnt,
+    })
 }
 
 /// Follows what is pending until nothing is.
@@ -255,15 +246,16 @@ fn package_in<T: SearchStore>(store: &T, literals: &[Literal]) -> Option<T::Name
     None
 }
 
-/// The reasons of the encoded clauses that a trace saw, each once, in the order in which they were encoded.
+/// The reasons of the clauses that a trace saw, each once: of those that were encoded, in this order; then the packages
+/// of which at most one version may be picked.
 fn told<T: SearchStore>(
-    alloc: T::Alloc,
+    progress: &Progress<T>,
     encoded: &Encoded<T>,
     trace: &Trace<T::Alloc>,
 ) -> Result<Vec<Reason<T::NameId, T::SolvableId>, T::Alloc>> {
-    let mut clauses = Vec::from_slice(alloc, &trace.seen)?;
+    let mut clauses = Vec::from_slice(progress.alloc, &trace.seen)?;
     clauses.sort_unstable();
-    let mut reasons = Vec::new(alloc);
+    let mut reasons = Vec::new(progress.alloc);
     for clause in &clauses {
         if let Some(reason) = encoded.reasons.get(*clause) {
             if !is_told(&reasons, reason) {
@@ -271,6 +263,7 @@ fn told<T: SearchStore>(
             }
         }
     }
+    add_packages(progress, &trace.seen, &mut reasons)?;
     Ok(reasons)
 }
 
@@ -279,38 +272,23 @@ fn is_told<N: Copy + PartialEq, S: Copy + PartialEq>(
     reasons: &[Reason<N, S>],
     reason: &Reason<N, S>,
 ) -> bool {
-    let dependent = reason.dependent();
+    let solvable = dependent(reason);
     for told in reasons.iter().rev() {
         if *told == *reason {
             return true;
         }
-        if dependent.is_some() && told.dependent() != dependent {
+        if solvable.is_some() && dependent(told) != solvable {
             return false;
         }
     }
     false
 }
 
-/// The solvables whose dependencies are among the reasons. Reasons of one solvable come in turn.
-fn dependents<N: Copy, S: Copy + PartialEq, A: Allocator + Copy>(
-    alloc: A,
-    reasons: &[Reason<N, S>],
-) -> Result<Vec<S, A>> {
-    let mut solvables = Vec::new(alloc);
-    for reason in reasons {
-        if let Some(solvable) = reason.dependent() {
-            if !is_last(&solvables, solvable) {
-                solvables.push(solvable)?;
-            }
-        }
-    }
-    Ok(solvables)
-}
-
-/// Whether the last one of a list is this.
-fn is_last<S: Copy + PartialEq>(list: &[S], one: S) -> bool {
-    match list.last() {
-        Some(last) => *last == one,
-        None => false,
+/// The solvable whose dependencies a reason is about.
+pub(crate) fn dependent<N: Copy, S: Copy>(reason: &Reason<N, S>) -> Option<S> {
+    match reason {
+        Reason::Needs(solvable, _) | Reason::Lacks(solvable, _) => *solvable,
+        Reason::Limits(solvable, _) | Reason::Unknown(solvable, _) => Some(*solvable),
+        Reason::Excluded(_, _) | Reason::Locked(_) | Reason::OneVersion(_) => None,
     }
 }

@@ -1,35 +1,39 @@
 //! The search, and the check of what it found.
 ghost use Rattle.std.specs.Prelude.{◌≡◌, true, All, IfOk};
-ghost use Rattle.picking.specs.Answers.{FindsNone, PicksBest, PicksNeeded, PicksNoneSpare, PicksRanked, PicksSolution};
+ghost use Rattle.picking.specs.Answers.{FindsNone, GivesEnough, GivesNoneSpare, GivesSo};
+ghost use Rattle.picking.specs.Answers.{PicksBest, PicksNeeded, PicksNoneSpare, PicksRanked, PicksSolution};
 ghost use Rattle.solutions.specs.Needed.{IsNeeded};
 ghost use Rattle.solutions.specs.Newest.{newest};
+ghost use Rattle.solutions.specs.Reasons.{AreEnough, AreSo};
 ghost use Rattle.solutions.specs.Solutions.{IsSolution};
 ghost use Rattle.solutions.specs.Wishes.{NoneSpare, alternatives_of};
 
 use crate::borrowed::Borrowed;
-use crate::explaining::Refutation;
-use crate::reason::Reason;
+use crate::explaining::{NoneShown, Shown};
+use crate::minimising::{Minimised, leave_out_spare};
 use crate::search::{Found, SearchEnd, Task, search_for};
 use resolvo_ids::StoreError;
 use resolvo_pool::{ConditionalRequirement, DependencyProvider, Interner, ProviderFunctions};
 use solutions::{
-    Cause, Request, are_needed, best_up_to, find_spare, is_solution, newest_wishes, ranks, refutes,
+    Cause, PackageLiteral, Reason, Request, are_enough, are_needed, are_so, best_up_to, find_spare,
+    is_no_reason_spare, is_solution, newest_wishes, ranks,
 };
 use std::alloc::Allocator;
 
-/// What comes of a search.
+/// The outcome of a search.
 #[derive(Debug, Drop)]
 pub enum Answer<N, S, A: Allocator> {
     /// A solution.
     Picked(Choice<S, A>),
-    /// There is no solution, for these reasons together. The reasons are not proved.
-    Unsolvable(Vec<Reason<N, S>, A>),
-    /// The search found no solution, for these reasons together, but the check doesn't certify it. A right search never
-    /// answers this.
-    Uncertified(Vec<Reason<N, S>, A>),
-    /// This many steps were too few.
+    /// There is no solution: the reasons are true, and no choice of versions meets them all.
+    Unsolvable(Refutation<N, S, A>),
+    /// The search says that there is no solution, but the check doesn't certify that. A right search of a provider
+    /// that lists each solvable under its own package never answers this.
+    Uncertified(Refutation<N, S, A>),
+    /// The steps ended before there was a solution, or before the check could show that there is none.
     StepsUsed,
-    /// What the search picked is no solution, or has something that can be left out. A right search never answers this.
+    /// What the search picked is no solution, or has a solvable that isn't needed or can be left out. A right search of
+    /// such a provider never answers this.
     NotASolution,
 }
 
@@ -38,16 +42,27 @@ pub enum Answer<N, S, A: Allocator> {
 pub struct Choice<S, A: Allocator> {
     /// What is picked.
     pub solvables: Vec<S, A>,
-    /// For each of them why it is picked. A place that a cause names is an earlier one.
+    /// For each of them, in the same order, why it is picked. One that another one requires comes after that one.
     pub causes: Vec<Cause, A>,
-    /// For each wish how many of its alternatives come before the first that is so.
+    /// For each wish, how many of its alternatives come before the first true one.
     pub ranks: Vec<usize, A>,
-    /// For how many wishes, from the first on, no solution is better.
+    /// By this many of the first wishes, no solution is better.
     pub best_up_to: usize,
 }
 
+/// That there is no solution, and why.
+#[derive(Debug, Drop)]
+pub struct Refutation<N, S, A: Allocator> {
+    /// The reasons. In `Unsolvable` they are true, and no choice of versions meets them all.
+    pub reasons: Vec<Reason<N, S>, A>,
+    /// The learnt clauses, in order. Their replay over the reasons shows that no choice meets them all (`are_enough`).
+    pub learnt: Vec<Vec<PackageLiteral<S>, A>, A>,
+    /// Whether it is shown that none of the reasons is spare.
+    pub none_spare: bool,
+}
+
 /// Searches for the solution of the request that has the newest versions of what is requested, in the order of the
-/// request ([`newest_wishes`]), in no more steps than these.
+/// request ([`newest_wishes`]), in at most `steps` steps.
 pub fn pick<D: DependencyProvider>(
     alloc: D::Alloc,
     provider: &D,
@@ -64,6 +79,9 @@ pub fn pick<D: DependencyProvider>(
     ensures none_spare { IfOk result (PicksNoneSpare (⟦<D as ProviderFunctions>⟧.functions provider.now) requested.now
         (newest (⟦<D as ProviderFunctions>⟧.functions provider.now) requested.now)) }
     ensures none { IfOk result (FindsNone (⟦<D as ProviderFunctions>⟧.functions provider.now) requested.now) }
+    ensures reasons_so { IfOk result (GivesSo (⟦<D as ProviderFunctions>⟧.functions provider.now) requested.now) }
+    ensures reasons_enough { IfOk result (GivesEnough (⟦<D as ProviderFunctions>⟧.functions provider.now)) }
+    ensures no_reason_spare { IfOk result (GivesNoneSpare (⟦<D as ProviderFunctions>⟧.functions provider.now)) }
 {
     let wishes = newest_wishes(alloc, provider, requested)?;
     let request = Request {
@@ -93,6 +111,10 @@ pub fn pick_by_wishes<D: DependencyProvider>(
         request.now.requirements.now (alternatives_of request.now.wishes.now)) }
     ensures none { IfOk result (FindsNone (⟦<D as ProviderFunctions>⟧.functions provider.now)
         request.now.requirements.now) }
+    ensures reasons_so { IfOk result (GivesSo (⟦<D as ProviderFunctions>⟧.functions provider.now)
+        request.now.requirements.now) }
+    ensures reasons_enough { IfOk result (GivesEnough (⟦<D as ProviderFunctions>⟧.functions provider.now)) }
+    ensures no_reason_spare { IfOk result (GivesNoneSpare (⟦<D as ProviderFunctions>⟧.functions provider.now)) }
 {
     let task = Task {
         request,
@@ -101,7 +123,7 @@ pub fn pick_by_wishes<D: DependencyProvider>(
     };
     match search_for(alloc, Borrowed::new(provider), &task)? {
         SearchEnd::Picked(found) => checked(alloc, provider, request, found),
-        SearchEnd::Unsolvable(refutation) => refuted(alloc, provider, request, refutation),
+        SearchEnd::Unsolvable(found) => refuted(alloc, provider, request, found),
         SearchEnd::StepsUsed => Ok(Answer::StepsUsed),
     }
 }
@@ -125,6 +147,10 @@ fn checked<D: DependencyProvider>(
         request.now.requirements.now (alternatives_of request.now.wishes.now)) }
     ensures none { IfOk result (FindsNone (⟦<D as ProviderFunctions>⟧.functions provider.now)
         request.now.requirements.now) }
+    ensures reasons_so { IfOk result (GivesSo (⟦<D as ProviderFunctions>⟧.functions provider.now)
+        request.now.requirements.now) }
+    ensures reasons_enough { IfOk result (GivesEnough (⟦<D as ProviderFunctions>⟧.functions provider.now)) }
+    ensures no_reason_spare { IfOk result (GivesNoneSpare (⟦<D as ProviderFunctions>⟧.functions provider.now)) }
 {
     if !is_fine(alloc, provider, request, &found)? {
         return Ok(Answer::NotASolution);
@@ -189,7 +215,7 @@ pub fn why_not<D: DependencyProvider>(
     };
     match search_for(alloc, Borrowed::new(provider), &task)? {
         SearchEnd::Picked(found) => Ok(found.reasons),
-        SearchEnd::Unsolvable(refutation) => Ok(refutation.reasons),
+        SearchEnd::Unsolvable(found) => Ok(found.shown.reasons),
         SearchEnd::StepsUsed => Ok(Vec::new(alloc)),
     }
 }
@@ -199,7 +225,7 @@ fn refuted<D: DependencyProvider>(
     alloc: D::Alloc,
     provider: &D,
     request: &Request<D::SolvableId, D::Alloc>,
-    refutation: Refutation<D::NameId, D::SolvableId, D::Alloc>,
+    found: NoneShown<D::NameId, D::SolvableId, D::Alloc>,
 ) -> Result<Answer<D::NameId, D::SolvableId, D::Alloc>, StoreError>
     ensures solution { IfOk result (PicksSolution (⟦<D as ProviderFunctions>⟧.functions provider.now)
         request.now.requirements.now) }
@@ -213,14 +239,44 @@ fn refuted<D: DependencyProvider>(
         request.now.requirements.now (alternatives_of request.now.wishes.now)) }
     ensures none { IfOk result (FindsNone (⟦<D as ProviderFunctions>⟧.functions provider.now)
         request.now.requirements.now) }
+    ensures reasons_so { IfOk result (GivesSo (⟦<D as ProviderFunctions>⟧.functions provider.now)
+        request.now.requirements.now) }
+    ensures reasons_enough { IfOk result (GivesEnough (⟦<D as ProviderFunctions>⟧.functions provider.now)) }
+    ensures no_reason_spare { IfOk result (GivesNoneSpare (⟦<D as ProviderFunctions>⟧.functions provider.now)) }
 {
-    if refutation.shown.len() as u64 > refutation.steps {
+    if found.shown.learnt.len() as u64 > found.steps {
         return Ok(Answer::StepsUsed);
     }
-    let evidence = refutation.shown.evidence();
-    if refutes(alloc, provider, request.requirements, &evidence)? {
-        Ok(Answer::Unsolvable(refutation.reasons))
+    let Minimised { found, choices } = leave_out_spare(alloc, Borrowed::new(provider), found)?;
+    let shown = found.shown;
+    let is_shown = is_certified(alloc, provider, request.requirements, &shown)?;
+    let none_spare = is_no_reason_spare(alloc, provider, &shown.reasons, &choices)?;
+    let refutation = Refutation {
+        reasons: shown.reasons,
+        learnt: shown.learnt,
+        none_spare,
+    };
+    if is_shown {
+        Ok(Answer::Unsolvable(refutation))
     } else {
-        Ok(Answer::Uncertified(refutation.reasons))
+        Ok(Answer::Uncertified(refutation))
     }
+}
+
+/// Whether the reasons are so, and enough.
+fn is_certified<D: DependencyProvider>(
+    alloc: D::Alloc,
+    provider: &D,
+    requested: &[ConditionalRequirement],
+    shown: &Shown<D::NameId, D::SolvableId, D::Alloc>,
+) -> Result<bool, StoreError>
+    ensures so { IfOk result (λ yes. yes ≡ true →
+        AreSo (⟦<D as ProviderFunctions>⟧.functions provider.now) requested.now shown.now.reasons.items) }
+    ensures enough { IfOk result (λ yes. yes ≡ true →
+        AreEnough (⟦<D as ProviderFunctions>⟧.functions provider.now) shown.now.reasons.items) }
+{
+    if !are_so(alloc, provider, requested, &shown.reasons)? {
+        return Ok(false);
+    }
+    are_enough(alloc, provider, &shown.reasons, &shown.learnt)
 }

@@ -6,6 +6,7 @@ use resolvo_pool::{
     CacheError, Candidates, Dependencies, DependencyProvider, Interner, SolverCache,
     convert_conditions_to_dnf,
 };
+use solutions::Reason;
 use std::alloc::Allocator;
 
 /// A source of packages with names `N` and solvables `S`. It refuses what there isn't.
@@ -15,6 +16,12 @@ pub(crate) trait PackageSource<N, S, A: Allocator> {
 
     /// What there is of a package.
     fn package(&mut self, name: N) -> Result<&Candidates<S, A>>;
+
+    /// Whether at most one version of a package may be picked.
+    fn is_one_version(&self, name: N) -> bool;
+
+    /// Why a package rules out a solvable: because it excludes it, or is locked to another one.
+    fn bans(&mut self, name: N, solvable: S) -> Result<Vec<Reason<N, S>, A>>;
 
     /// The candidates that the version set doesn't hold.
     fn outside(&mut self, set: VersionSetId) -> Result<&[S]>;
@@ -74,6 +81,30 @@ impl<D: DependencyProvider + Copy> PackageSource<D::NameId, D::SolvableId, D::Al
             Ok(id) => Ok(self.cache.candidates(id)),
             Err(unanswered) => Err(refusal_of(unanswered)),
         }
+    }
+
+    fn is_one_version(&self, _name: D::NameId) -> bool {
+        true
+    }
+
+    fn bans(
+        &mut self,
+        name: D::NameId,
+        solvable: D::SolvableId,
+    ) -> Result<Vec<Reason<D::NameId, D::SolvableId>, D::Alloc>> {
+        let mut bans = Vec::new(self.alloc);
+        let package = self.package(name)?;
+        for (excluded, string) in &package.excluded {
+            if *excluded == solvable {
+                bans.push(Reason::Excluded(solvable, *string))?;
+            }
+        }
+        if let Some(locked) = package.locked {
+            if locked != solvable {
+                bans.push(Reason::Locked(locked))?;
+            }
+        }
+        Ok(bans)
     }
 
     fn outside(&mut self, set: VersionSetId) -> Result<&[D::SolvableId]> {

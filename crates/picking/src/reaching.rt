@@ -15,9 +15,8 @@ use std::alloc::Allocator;
 /// What a solution takes.
 #[derive(Drop)]
 pub(crate) struct Taken<A: Allocator> {
-    /// A cause that is a place names an earlier one.
     pub(crate) variables: Vec<VariableId, A>,
-    /// For each of them what needs it. A place is a lower one.
+    /// For each of them what needs it: another one comes before.
     pub(crate) causes: Vec<Cause, A>,
     /// For each of them what isn't satisfied without it.
     pub(crate) breaks: Vec<Cause, A>,
@@ -84,7 +83,7 @@ impl<A: Allocator + Copy> Reached<A> {
     fn taken(self, alloc: A, breaks: &Mapping<VariableId, Cause, A>) -> Result<Taken<A>> {
         let mut listed = Vec::new(alloc);
         for variable in &self.variables {
-            listed.push(breaks.get(*variable).copied().unwrap_or(Cause::Wished))?;
+            listed.push(breaks.get(*variable).copied().unwrap_or(Cause::Wished(0)))?;
         }
         Ok(Taken {
             variables: self.variables,
@@ -143,12 +142,12 @@ impl<'s, T: SearchStore> Kept<'s, T> {
             causes: Vec::new(self.alloc),
             places: Mapping::new(self.alloc)?,
         };
-        self.reach_from(&mut reached, VariableId::root(), Cause::Requested)?;
+        self.reach_from(&mut reached, VariableId::root(), None)?;
         self.reach_on(&mut reached, 0)?;
         let requested = reached.variables.len();
         for place in 0..wishes.len() {
             if let Some(variable) = self.wished(wishes, place) {
-                reached.add(variable, Cause::Wished)?;
+                reached.add(variable, Cause::Wished(place))?;
             }
         }
         self.reach_on(&mut reached, requested)?;
@@ -170,22 +169,22 @@ impl<'s, T: SearchStore> Kept<'s, T> {
             let Some(parent) = reached.variables.get(place).copied() else {
                 break;
             };
-            self.reach_from(reached, parent, Cause::Required(place))?;
+            self.reach_from(reached, parent, Some(place))?;
         }
         Ok(())
     }
 
-    /// Adds the first kept candidate of each requirement of a parent that counts.
+    /// Adds the first kept candidate of each requirement that counts of the parent at a place, or of the root.
     fn reach_from(
         &self,
         reached: &mut Reached<T::Alloc>,
         parent: VariableId,
-        cause: Cause,
+        at: Option<usize>,
     ) -> Result<()> {
         for required in self.requirements.of(parent) {
             if self.hold_but(&required.gates, VariableId::root()) {
                 if let Some(candidate) = self.first_of(required.requirement) {
-                    reached.add(candidate, cause)?;
+                    reached.add(candidate, cause_of(at, required))?;
                 }
             }
         }
@@ -232,29 +231,29 @@ impl<'s, T: SearchStore> Kept<'s, T> {
         let mut breaks = Mapping::new(self.alloc)?;
         for place in 0..wishes.len() {
             if let Some(variable) = self.wished(wishes, place) {
-                breaks.insert(variable, Cause::Wished)?;
+                breaks.insert(variable, Cause::Wished(place))?;
             }
         }
         for place in 0..reached.variables.len() {
             if let Some(parent) = reached.variables.get(place) {
-                self.add_breaks(&mut breaks, *parent, Cause::Required(place))?;
+                self.add_breaks(&mut breaks, *parent, Some(place))?;
             }
         }
-        self.add_breaks(&mut breaks, VariableId::root(), Cause::Requested)?;
+        self.add_breaks(&mut breaks, VariableId::root(), None)?;
         Ok(breaks)
     }
 
-    /// Adds what is the only candidate of a requirement of a parent that counts.
+    /// Adds what is the only candidate of a requirement that counts of the parent at a place, or of the root.
     fn add_breaks(
         &self,
         breaks: &mut Mapping<VariableId, Cause, T::Alloc>,
         parent: VariableId,
-        cause: Cause,
+        at: Option<usize>,
     ) -> Result<()> {
         for required in self.requirements.of(parent) {
             if let Some(only) = self.only_of(required) {
                 if only != parent {
-                    breaks.insert(only, cause)?;
+                    breaks.insert(only, cause_of(at, required))?;
                 }
             }
         }
@@ -270,5 +269,13 @@ impl<'s, T: SearchStore> Kept<'s, T> {
             return Some(only);
         }
         None
+    }
+}
+
+/// The cause that a requirement is: of the solvable at a place, or of the request.
+fn cause_of<A: Allocator>(at: Option<usize>, required: &Required<A>) -> Cause {
+    match at {
+        Some(place) => Cause::Required(place),
+        None => Cause::Requested(required.place),
     }
 }

@@ -7,20 +7,19 @@
 //! (`explaining`).
 use crate::deciding::{best_offer, raise_scores};
 use crate::encoding::Encoder;
-use crate::explaining::{Refutation, Shown, why_none, why_none_better, why_not_better};
+use crate::explaining::{NoneShown, Shown, why_none, why_none_better, why_not_better};
 use crate::notes::Notes;
 use crate::pace::Pace;
 use crate::package_source::{PackageSource, ProvidedPackages};
 use crate::progress::Progress;
 use crate::reaching::take;
-use crate::reason::Reason;
 use crate::search_store::SearchStore;
 use crate::trail::Trail;
 use crate::wishing::{VariableValue, Wishes};
 use resolvo_ids::{ClauseId, StoreError, VariableId};
 use resolvo_pool::DependencyProvider;
 use resolvo_store::{ClauseStore, Next};
-use solutions::{Cause, Request, Wish};
+use solutions::{Cause, Reason, Request, Wish};
 use std::alloc::Allocator;
 
 pub(crate) type Result<T> = std::result::Result<T, StoreError>;
@@ -31,7 +30,7 @@ pub(crate) enum SearchEnd<N, S, A: Allocator> {
     /// A solution was found.
     Picked(Found<N, S, A>),
     /// There is no solution.
-    Unsolvable(Refutation<N, S, A>),
+    Unsolvable(NoneShown<N, S, A>),
     /// The steps were too few.
     StepsUsed,
 }
@@ -39,16 +38,18 @@ pub(crate) enum SearchEnd<N, S, A: Allocator> {
 /// A solution.
 #[derive(Drop)]
 pub(crate) struct Found<N, S, A: Allocator> {
-    /// What is picked: a cause that is a place names an earlier one.
+    /// What is picked: one that another one requires comes after that one.
     pub(crate) solvables: Vec<S, A>,
     /// For each solvable what needs it.
     pub(crate) causes: Vec<Cause, A>,
     /// For each solvable what isn't satisfied without it.
     pub(crate) breaks: Vec<Cause, A>,
     /// That no solution is better by the wishes; nothing if the steps were too few to search for one.
-    pub(crate) shown: Shown<S, A>,
+    pub(crate) shown: Shown<N, S, A>,
     /// Why none is better by the wish that was asked about.
     pub(crate) reasons: Vec<Reason<N, S>, A>,
+    /// How many steps are left.
+    pub(crate) steps: u64,
 }
 
 /// What to search for.
@@ -103,7 +104,10 @@ pub(crate) fn search_for<D: DependencyProvider + Copy>(
 }
 
 /// Searches in a store that is new.
-fn search_by<T: SearchStore + Drop, P: PackageSource<T::NameId, T::SolvableId, T::Alloc> + Drop>(
+pub(crate) fn search_by<
+    T: SearchStore + Drop,
+    P: PackageSource<T::NameId, T::SolvableId, T::Alloc> + Drop,
+>(
     alloc: T::Alloc,
     store: T,
     packages: P,
@@ -180,9 +184,9 @@ impl<T: SearchStore + Drop, P: PackageSource<T::NameId, T::SolvableId, T::Alloc>
             if spent >= steps {
                 break;
             }
+            let left = steps.saturating_sub(spent);
             if self.progress.trail.level() == 0 {
-                let left = steps.saturating_sub(spent);
-                return Ok(SearchEnd::Unsolvable(self.refutation(left)?));
+                return Ok(SearchEnd::Unsolvable(self.none_shown(left)?));
             }
             let step = self.step()?;
             if let Step::Solved = step {
@@ -190,7 +194,7 @@ impl<T: SearchStore + Drop, P: PackageSource<T::NameId, T::SolvableId, T::Alloc>
                 self.wishes.note(&self.progress.store)?;
             }
             if !step.is_open() && !self.wishes.activate() {
-                return self.end(last, task.asked);
+                return self.end(last, task.asked, left);
             }
             if let Step::Solved = step {
                 self.begin_anew();
@@ -207,6 +211,7 @@ impl<T: SearchStore + Drop, P: PackageSource<T::NameId, T::SolvableId, T::Alloc>
         &mut self,
         last: Option<Found<T::NameId, T::SolvableId, T::Alloc>>,
         asked: Option<usize>,
+        steps: u64,
     ) -> Result<SearchEnd<T::NameId, T::SolvableId, T::Alloc>> {
         let Some(found) = last else {
             return Ok(SearchEnd::StepsUsed);
@@ -224,11 +229,12 @@ impl<T: SearchStore + Drop, P: PackageSource<T::NameId, T::SolvableId, T::Alloc>
             breaks,
             shown: self.shown()?,
             reasons: self.reasons(asked)?,
+            steps,
         }))
     }
 
     /// That no solution is better.
-    fn shown(&self) -> Result<Shown<T::SolvableId, T::Alloc>> {
+    fn shown(&self) -> Result<Shown<T::NameId, T::SolvableId, T::Alloc>> {
         let encoded = &self.encoder.encoded;
         why_none_better(&self.progress, encoded, &self.notes, &self.wishes)
     }
@@ -247,7 +253,7 @@ impl<T: SearchStore + Drop, P: PackageSource<T::NameId, T::SolvableId, T::Alloc>
     }
 
     /// That there is no solution.
-    fn refutation(&self, steps: u64) -> Result<Refutation<T::NameId, T::SolvableId, T::Alloc>> {
+    fn none_shown(&self, steps: u64) -> Result<NoneShown<T::NameId, T::SolvableId, T::Alloc>> {
         why_none(&self.progress, &self.encoder.encoded, &self.notes, steps)
     }
 
@@ -267,6 +273,7 @@ impl<T: SearchStore + Drop, P: PackageSource<T::NameId, T::SolvableId, T::Alloc>
             breaks: taken.breaks,
             shown: Shown::new(self.progress.alloc),
             reasons: Vec::new(self.progress.alloc),
+            steps: 0,
         })
     }
 

@@ -11,7 +11,7 @@ use Rattle.std.proofs.lemmas.List.Elements.{All-get_or, All-nil}
 use Rattle.std.proofs.lemmas.Option.{slice_get_within, get_or_from_slice_get}
 use Rattle.resolvo_pool.specs.Functions.{Provider}
 use Rattle.resolvo_pool.specs.Types.ConditionalRequirement.{ConditionalRequirement}
-use Rattle.solutions.specs.Clauses.{AreSatisfied, AreTrue, IsOneAName, Replayed, has_true, is_true}
+use Rattle.solutions.specs.Clauses.{AreSatisfied, AreTrue, Replayed, has_true, is_true}
 use Rattle.solutions.specs.Settled.{AreSameUpTo, IsUnbeaten, first_true, first_trues}
 use Rattle.solutions.specs.Solutions.{IsSolution}
 use Rattle.solutions.specs.Truth.{AreStillSatisfied, truth}
@@ -21,9 +21,7 @@ use Rattle.solutions.specs.declared.literal.Fact.{Fact}
 use Rattle.solutions.specs.declared.literal.Fact.TheVariants.{Picked}
 use Rattle.solutions.specs.declared.literal.Literal.{Literal}
 use Rattle.solutions.specs.declared.wish.Alternative.{Alternative}
-use Rattle.solutions.proofs.EncodingLemmas as L
 use Rattle.solutions.proofs.RankLemmas.{before_taken}
-use Rattle.solutions.proofs.ReplayLemmas.{solution_is_one_a_name}
 
 -- numbers that are the same as others, or both larger than the ranks, are unbeaten alike
 pub unbeaten_alike : (count : ℕ) (ranks numbers others : List ℕ) → AreSameUpTo (length ranks) ranks numbers others
@@ -114,12 +112,11 @@ module _ {N S : Type 0} (p : Provider N S) where
       ∙ ap (rank p other) (get_or-map items wishes i wish [] below ∙ ap items (sym is))
 
   -- an alternative as a literal
-  pub literal_is_so : ((n : N) → p.same_name n n ≡ true) → (l : Literal N S) (a : Alternative S)
-      → l.fact ≡ Picked a.solvable (p.universe.solvable_name a.solvable) → l.value ≡ a.is_picked → (other : List S)
+  pub literal_is_so : (l : Literal N S) (a : Alternative S) → l.fact ≡ Picked a.solvable → l.value ≡ a.is_picked → (other : List S)
       → is_true (truth p other) l ≡ is_so p other a
-  literal_is_so reflexive l a fact value other =
+  literal_is_so l a fact value other =
       ap (λ v. if v then truth p other l.fact else not (truth p other l.fact)) value
-      ∙ ap (λ b. if a.is_picked then b else not b) (ap (truth p other) fact ∙ L.picked_truth p reflexive other a.solvable)
+      ∙ ap (λ b. if a.is_picked then b else not b) (ap (truth p other) fact)
 
   -- one more of them
   pub literals_more : (alternatives : List (Alternative S)) (i : ℕ) (a : Alternative S) (literals next : List (Literal N S)) (l : Literal N S) (other : List S)
@@ -173,17 +170,15 @@ module _ {N S : Type 0} (p : Provider N S) where
         (unbeaten_whole count n first ranks (map (rank p other) wishes) is rest within (unbeaten other its)))
 
 -- what is settled of all assignments, of solutions
-pub unbeaten_solutions : {N S A : Type 0} (p : Provider N S) → ((n : N) → p.same_name n n ≡ true) → ((m n : N) → p.same_name m n ≡ true → m ≡ n)
-    → ((s t : S) → p.same_solvable s t ≡ true → s ≡ t) → (requested : List ConditionalRequirement) (wishes : List (List (Alternative S)))
+pub unbeaten_solutions : {N S A : Type 0} (p : Provider N S) → (requested : List ConditionalRequirement) (wishes : List (List (Alternative S)))
     → (clauses now : List (Vec (Literal N S) A)) (known_now : List (Literal N S)) (answer : Bool) (count : ℕ) (ranks : List ℕ) (lists : List (Vec (Literal N S) A))
     → AreStillSatisfied p (IsSolution p requested) [] clauses → Replayed clauses [] now known_now answer
-    → ((holds : Fact N S → Bool) → IsOneAName holds → AreSatisfied holds now → AreTrue holds known_now → IsUnbeaten count ranks (first_trues holds lists))
+    → ((holds : Fact N S → Bool) → AreSatisfied holds now → AreTrue holds known_now → IsUnbeaten count ranks (first_trues holds lists))
     → ((other : List S) → AreSameUpTo (length ranks) ranks (first_trues (truth p other) lists) (map (rank p other) wishes))
     → (other : List S) → IsSolution p requested other → IsUnbeaten count ranks (map (rank p other) wishes)
-unbeaten_solutions {N} {S} {A} p reflexive equal_name equal requested wishes clauses now known_now answer count ranks lists encoded replayed settled same other solution =
+unbeaten_solutions {N} {S} {A} p requested wishes clauses now known_now answer count ranks lists encoded replayed settled same other solution =
     let holds = truth p other in
-    let one : IsOneAName holds = solution_is_one_a_name p reflexive equal_name equal requested other solution in
     let met : AreSatisfied holds clauses = encoded other solution (All-nil (λ (c : Vec (Literal N S) A). has_true holds c.items ≡ true)) in
     let none : AreTrue holds [] = All-nil (λ l. is_true holds l ≡ true) in
     unbeaten_alike count ranks (first_trues holds lists) (map (rank p other) wishes) (same other)
-    (settled holds one (replayed.are_satisfied holds one met none) (replayed.are_true holds one met none))
+    (settled holds (replayed.are_satisfied holds met none) (replayed.are_true holds met none))

@@ -27,10 +27,6 @@ or_assoc : (a b c : Bool) → ((a || b) || c) ≡ (a || (b || c))
 or_assoc true b c = refl
 or_assoc false b c = refl
 
-and_true : (b : Bool) → (b && true) ≡ b
-and_true true = refl
-and_true false = refl
-
 not_and : (a b : Bool) → not (a && (b && true)) ≡ (not a || not b)
 not_and true true = refl
 not_and true false = refl
@@ -48,7 +44,7 @@ not_false : (b : Bool) → not b ≡ false → b ≡ true
 not_false true h = refl
 not_false false h = absurd (true≢false h)
 
-not_is_true : (b : Bool) → not b ≡ true → b ≡ false
+pub not_is_true : (b : Bool) → not b ≡ true → b ≡ false
 not_is_true true h = absurd (true≢false (sym h))
 not_is_true false h = refl
 
@@ -66,7 +62,7 @@ module _ {X : Type 0} (f : X → Bool) (xs : List X) (i : ℕ) (x : X) (below : 
 
 -- one of a list
 module _ {X : Type 0} (f : X → Bool) where
-  none_of : (xs : List X) → list_any f xs ≡ false → All (λ y. f y ≡ false) xs
+  pub none_of : (xs : List X) → list_any f xs ≡ false → All (λ y. f y ≡ false) xs
   none_of [] none = All-nil (λ y. f y ≡ false)
   none_of (x ∷ xs) none =
       let both = both_false (f x) (list_any f xs) none in
@@ -74,15 +70,6 @@ module _ {X : Type 0} (f : X → Bool) where
 
   pub none_at : (xs : List X) (i : ℕ) (x : X) → i < length xs → x ≡ get_or xs i x → list_any f xs ≡ false → f x ≡ false
   none_at xs i x below is none = subst (λ y. f y ≡ false) (sym is) (All-get_or (λ y. f y ≡ false) xs i x below (none_of xs none))
-
-  all_of : (xs : List X) → list_all f xs ≡ true → All (λ y. f y ≡ true) xs
-  all_of [] all = All-nil (λ y. f y ≡ true)
-  all_of (x ∷ xs) all =
-      let both = both_true (f x) (list_all f xs) all in
-      All-cons (λ y. f y ≡ true) x xs both.0 (all_of xs both.1)
-
-  pub all_at : (xs : List X) (i : ℕ) (x : X) → i < length xs → x ≡ get_or xs i x → list_all f xs ≡ true → f x ≡ true
-  all_at xs i x below is all = subst (λ y. f y ≡ true) (sym is) (All-get_or (λ y. f y ≡ true) xs i x below (all_of xs all))
 
 module _ {N S A : Type 0} (p : Provider N S) where
   pub still : (IsSo : List S → Type 0) (clauses : List (Vec (Literal N S) A)) → AreStillSatisfied p IsSo clauses clauses
@@ -130,21 +117,27 @@ module _ {N S : Type 0} (p : Provider N S) where
       → HasTrueOr p f one two → HasTrueOr p g one two
   or_same f g one two is has = λ picked. has picked ∙ ap (λ b. has_true (truth p picked) one || b) (is picked)
 
-  module _ (reflexive : (n : N) → p.same_name n n ≡ true) where
-    -- whether a solvable is picked
-    pub picked_truth : (picked : List S) (s : S) → truth p picked (Picked s (p.universe.solvable_name s)) ≡ is_among p picked s
-    picked_truth picked s = ap (λ b. is_among p picked s && b) (reflexive (p.universe.solvable_name s)) ∙ and_true (is_among p picked s)
+  -- whether a solvable is picked
+  pub picked_literal : (l : Literal N S) (s : S) → l.fact ≡ Picked s → l.value ≡ true → (picked : List S)
+      → is_true (truth p picked) l ≡ is_among p picked s
+  picked_literal l s fact value picked =
+      ap (λ v. if v then truth p picked l.fact else not (truth p picked l.fact)) value ∙ ap (truth p picked) fact
 
-    pub picked_literal : (l : Literal N S) (s : S) → l.fact ≡ Picked s (p.universe.solvable_name s) → l.value ≡ true
-        → (picked : List S) → is_true (truth p picked) l ≡ is_among p picked s
-    picked_literal l s fact value picked =
-        ap (λ v. if v then truth p picked l.fact else not (truth p picked l.fact)) value ∙ ap (truth p picked) fact ∙ picked_truth picked s
+  pub unpicked_literal : (l : Literal N S) (s : S) → l.fact ≡ Picked s → l.value ≡ false → (picked : List S)
+      → is_true (truth p picked) l ≡ not (is_among p picked s)
+  unpicked_literal l s fact value picked =
+      ap (λ v. if v then truth p picked l.fact else not (truth p picked l.fact)) value ∙ ap (λ f. not (truth p picked f)) fact
 
-    pub unpicked_literal : (l : Literal N S) (s : S) → l.fact ≡ Picked s (p.universe.solvable_name s) → l.value ≡ false
-        → (picked : List S) → is_true (truth p picked) l ≡ not (is_among p picked s)
-    unpicked_literal l s fact value picked =
-        ap (λ v. if v then truth p picked l.fact else not (truth p picked l.fact)) value ∙ ap (λ f. not (truth p picked f)) fact
-        ∙ ap not (picked_truth picked s)
+  -- a clause that it isn't picked: where it is false, and where it is true
+  pub picked_where_false : (l : Literal N S) (s : S) → l.fact ≡ Picked s → l.value ≡ false → (picked : List S)
+      → has_true (truth p picked) (l ∷ []) ≡ false → is_among p picked s ≡ true
+  picked_where_false l s fact value picked fails =
+      not_false (is_among p picked s) (sym (unpicked_literal l s fact value picked) ∙ sym (or_nothing (is_true (truth p picked) l)) ∙ fails)
+
+  pub true_where_unpicked : (l : Literal N S) (s : S) → l.fact ≡ Picked s → l.value ≡ false → (picked : List S)
+      → is_among p picked s ≡ false → has_true (truth p picked) (l ∷ []) ≡ true
+  true_where_unpicked l s fact value picked is =
+      or_nothing (is_true (truth p picked) l) ∙ unpicked_literal l s fact value picked ∙ ap not is
 
   -- a clause of two literals: the second one is that a solvable isn't picked
   pub unpicked_satisfied : (unless l : Literal N S) (solvables : List S) (i : ℕ) (s : S) (picked : List S) → i < length solvables
@@ -184,20 +177,6 @@ module _ {N S : Type 0} (p : Provider N S) where
       second ∙ ap (λ b. b || m) (first picked)
       ∙ clause_is_true (has_true (truth p picked) unless) (list_all (has_picked p (is_among p picked)) held) m given
 
-  -- a solvable is fit, unless it isn't picked
-  pub fit_where : (reflexive : (n : N) → p.same_name n n ≡ true) (equal : (s t : S) → p.same_solvable s t ≡ true → s ≡ t)
-      (unless : Literal N S) (s : S) → unless.fact ≡ Picked s (p.universe.solvable_name s) → unless.value ≡ false → (picked : List S)
-      → AreAllFit p picked → has_true (truth p picked) (unless ∷ []) ≡ false → IsFit p (is_among p picked) s
-  fit_where reflexive equal unless s fact value picked fit fails =
-      of_picked equal (IsFit p (is_among p picked)) picked s fit
-      (not_false (is_among p picked s) (sym (unpicked_literal reflexive unless s fact value picked)
-      ∙ sym (or_nothing (is_true (truth p picked) unless)) ∙ fails))
-
-  pub known_needs_satisfied : (is_picked : S → Bool) {needs : Needs} {requirements : List ConditionalRequirement} {constrains : List VersionSetId}
-      → AreNeedsSatisfied p is_picked needs → needs ≡ Known requirements constrains
-      → All (IsSatisfied p is_picked) requirements × (list_all (is_respected p is_picked) constrains ≡ true)
-  known_needs_satisfied is_picked content is = subst (AreNeedsSatisfied p is_picked) is content
-
   -- of a version set
   pub unheld_literal : (l : Literal N S) (set : VersionSetId) → l.fact ≡ Held set → l.value ≡ false → (picked : List S)
       → is_true (truth p picked) l ≡ not (has_picked p (is_among p picked) set)
@@ -228,14 +207,11 @@ module _ {N S : Type 0} (p : Provider N S) where
       held_where_known set found picked knows is ∙ sym (held_literal l set fact value picked)
       ∙ sym (or_nothing (is_true (truth p picked) l)) ∙ fails
 
-  pub none_where_respected : (sets : List VersionSetId) (i : ℕ) (set : VersionSetId) (others : List S) (picked : List S) → i < length sets
-      → set ≡ get_or sets i set → others ≡ non_matching p.universe p.answers set → list_all (is_respected p (is_among p picked)) sets ≡ true
-      → list_any (is_among p picked) others ≡ false
-  none_where_respected sets i set others picked below is found kept =
-      ap (list_any (is_among p picked)) found
-      ∙ not_is_true (list_any (is_among p picked) (non_matching p.universe p.answers set))
-      (both_true (p.universe.knows_set set) (not (list_any (is_among p picked) (non_matching p.universe p.answers set)))
-      (all_at (is_respected p (is_among p picked)) sets i set below is kept)).1
+  pub none_where_respected : (set : VersionSetId) (picked : List S) → is_respected p (is_among p picked) set ≡ true
+      → list_any (is_among p picked) (non_matching p.universe p.answers set) ≡ false
+  none_where_respected set picked kept =
+      not_is_true (list_any (is_among p picked) (non_matching p.universe p.answers set))
+      (both_true (p.universe.knows_set set) (not (list_any (is_among p picked) (non_matching p.universe p.answers set))) kept).1
 
 -- what holds of all holds of each
 pub all_one : {X : Type 0} (P : X → Type 0) (xs : List X) (i : ℕ) (x : X) → i < length xs → x ≡ get_or xs i x → All P xs → All P (x ∷ [])

@@ -1,6 +1,6 @@
 -- Solutions in a small ecosystem, and what is none. The solvable 0 is an app, 1 and 2 are versions of a library, 3 is a
 -- plugin. The app needs the library, and the plugin where version 2 of the library is picked; it allows no other version.
-use Rattle.std.proofs.Common.{◌≡◌, ℕ, true, false, List, [], ◌∷◌, refl, Option, None, Some, if◌then◌else◌, ◌==◌, nat_eq, nat_lt, true≢false, ap, sym, arith}
+use Rattle.std.proofs.Common.{◌≡◌, ◌∙◌, ◌||◌, ℕ, zero, suc, Bool, true, false, List, [], ◌∷◌, refl, Option, None, Some, if◌then◌else◌, ◌==◌, nat_eq, nat_lt, true≢false, ap, sym, lit<, arith}
 use Rattle.std.specs.List.{IsDistinct}
 use Rattle.std.proofs.lemmas.List.Elements.{All-nil, All-cons, All-head, All-tail}
 use Rattle.resolvo_ids.specs.Types.StringId.{StringId}
@@ -11,9 +11,13 @@ use Rattle.resolvo_pool.specs.Functions.{Provider}
 use Rattle.resolvo_pool.specs.Types.Condition.TheVariants as Cond
 use Rattle.resolvo_pool.specs.Types.ConditionalRequirement.{ConditionalRequirement}
 use Rattle.resolvo_pool.specs.Types.Requirement.TheVariants.{Single}
+use Rattle.solutions.specs.Reasons.{AreEnough, IsMet, NoReasonSpare}
 use Rattle.solutions.specs.Solutions.{AreNeedsSatisfied, IsSatisfied, IsSolution, is_allowed, is_among}
 use Rattle.solutions.specs.Wishes.{IsSpare, NoneSpare, rank}
+use Rattle.solutions.specs.declared.reason.Reason.{Reason}
+use Rattle.solutions.specs.declared.reason.Reason.TheVariants as R
 use Rattle.solutions.specs.declared.wish.Alternative.{Alternative}
+use Rattle.solutions.proofs.MeetingLemmas.{not_enough_without}
 
 abbrev set : ℕ → VersionSetId
 set n = record { 0 = n }
@@ -141,3 +145,33 @@ pub version_1_wished : IsSpare ecosystem requested (wish ∷ []) and_version_1 1
 version_1_wished spare =
     let same : 0 ≡ 1 = All-head (λ (wish : List (Alternative ℕ)). rank ecosystem and_version_1 wish ≡ rank ecosystem (0 ∷ 2 ∷ 3 ∷ []) wish) wish [] spare.1 in
     absurd (true≢false (ap (λ (n : ℕ). n == 0) same))
+
+-- reasons: the app is requested, and excluded. Each of the two is needed
+abbrev app_requested : Reason ℕ ℕ
+app_requested = R.Needs None (always 0)
+
+abbrev app_excluded : Reason ℕ ℕ
+app_excluded = R.Excluded 0 (record { 0 = 0 })
+
+abbrev two_reasons : List (Reason ℕ ℕ)
+two_reasons = app_requested ∷ app_excluded ∷ []
+
+pub both_needed : NoReasonSpare ecosystem two_reasons
+both_needed zero below = ([], All-cons (IsMet ecosystem []) app_excluded [] refl (All-nil (IsMet ecosystem [])))
+both_needed (suc zero) below = (
+  0 ∷ [],
+  All-cons (IsMet ecosystem (0 ∷ [])) app_requested [] refl (All-nil (IsMet ecosystem (0 ∷ []))),
+)
+both_needed (suc (suc place)) below = absurd (omega arith)
+
+pub both_enough : AreEnough ecosystem two_reasons
+both_enough picked met =
+    let asked = All-head (IsMet ecosystem picked) app_requested (app_excluded ∷ []) met in
+    let barred = All-head (IsMet ecosystem picked) app_excluded []
+    (All-tail (IsMet ecosystem picked) app_requested (app_excluded ∷ []) met) in
+    true≢false (sym asked ∙ ap (λ (b : Bool). (b || false) || false) barred)
+
+-- beside them, that at most one version of the library is picked is spare
+pub library_spare : NoReasonSpare ecosystem (app_requested ∷ app_excluded ∷ R.OneVersion 1 ∷ []) → ⊥
+library_spare none =
+    not_enough_without ecosystem (app_requested ∷ app_excluded ∷ R.OneVersion 1 ∷ []) none 2 (lit< tt) both_enough

@@ -7,11 +7,14 @@ pub mod DecisionLemmas
 pub mod EncodingLemmas
 pub mod Examples
 pub mod FollowsLemmas
+pub mod MeetingLemmas
 pub mod MemberLemmas
 pub mod NeededLemmas
 pub mod NewestExample
 pub mod NewestLemmas
 pub mod RankLemmas
+pub mod ReasonLaws
+pub mod ReasonLemmas
 pub mod ReplayLemmas
 pub mod SettledLemmas
 pub mod SolutionLemmas

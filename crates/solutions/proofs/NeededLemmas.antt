@@ -2,13 +2,14 @@
 use Rattle.std.proofs.Common.{◌≡◌, ◌∙◌, ℕ, ◌<◌, ◌≤◌, Bool, true, false, ◌&&◌, List, length, map, take, drop, get_or, ap, refl, sym, subst, true≢false}
 use Rattle.std.specs.Bool.{Decides}
 use Rattle.std.specs.List.{All, Any, Contains, list_any}
-use Rattle.std.proofs.lemmas.List.{get_or-map, length-map, take-append-drop, take_all}
+use Rattle.std.proofs.lemmas.List.{take-append-drop, take_all}
 use Rattle.std.proofs.lemmas.List.Elements.{Contains-append_left, Contains-get_or}
 use Rattle.std.proofs.lemmas.List.Folds.{Any-from_list_any}
-use Rattle.std.proofs.lemmas.Option.{get_or_from_slice_get, slice_get_within}
+use Rattle.std.proofs.lemmas.Option.{get_or_from_slice_get, slice_get-map, slice_get_within}
+use Rattle.std.specs.Prelude.{Some, option_map, slice_get}
 use Rattle.resolvo_pool.specs.Functions.{Provider}
 use Rattle.resolvo_pool.specs.Types.ConditionalRequirement.{ConditionalRequirement}
-use Rattle.solutions.specs.Needed.{IsCausedBy, IsNeeded, IsWished, requested, required, wished}
+use Rattle.solutions.specs.Needed.{IsCausedBy, IsNeeded, IsWishedAt, Offers, requested, required, wished}
 use Rattle.solutions.specs.Solutions.{is_among}
 use Rattle.solutions.specs.Wishes.{alternatives_of}
 use Rattle.solutions.specs.declared.needed.Cause.{Cause}
@@ -45,22 +46,24 @@ module _ {S : Type 0} (same : S → S → Bool) (equal : (s t : S) → same s t 
       subst (Contains list) (any.3 ∙ is) (Contains-get_or list k a any.2)
 
 -- the wish at a place has it
-pub wished_at : {S A : Type 0} (wishes : List (Wish S A)) (solvable : S) (i : ℕ) (wish : Wish S A) → i < length wishes
-    → wish ≡ get_or wishes i wish → Contains wish.alternatives.items (record { solvable = solvable; is_picked = true })
-    → IsWished (alternatives_of wishes) solvable
-wished_at {S} {A} wishes solvable i wish below is has =
+pub wished_at : {S A : Type 0} (wishes : List (Wish S A)) (solvable : S) (i : ℕ) (wish : Wish S A) → slice_get wishes i ≡ Some wish
+    → Contains wish.alternatives.items (record { solvable = solvable; is_picked = true }) → IsWishedAt (alternatives_of wishes) i solvable
+wished_at {S} {A} wishes solvable i wish at has =
     let lists = λ (w : Wish S A). w.alternatives.items in
-    let within : i < length (map lists wishes) = subst (λ n. i < n) (sym (length-map wishes lists)) below in
-    let at : get_or (map lists wishes) i (lists wish) ≡ lists wish =
-    get_or-map lists wishes i wish (lists wish) below ∙ ap lists (sym is) in
-    (i, lists wish, within, at, has)
+    (lists wish, slice_get-map lists wishes i ∙ ap (option_map lists) at, has)
+
+-- what the one at a place passes
+any_at : {X : Type 0} (P : X → Type 0) (xs : List X) (i : ℕ) (x : X) → slice_get xs i ≡ Some x → P x → Any P xs
+any_at P xs i x at holds = (i, x, slice_get_within xs i x at, get_or_from_slice_get xs i x x at, holds)
 
 -- what has a cause is needed, where those before it are
 pub needed_by : {N S : Type 0} (p : Provider N S) (requirements : List ConditionalRequirement) (wishes : List (List (Alternative S)))
     (picked : List S) (place : ℕ) → All (IsNeeded p requirements wishes picked) (take place picked) → (cause : Cause) (solvable : S)
     → IsCausedBy p (is_among p picked) requirements wishes (take place picked) cause solvable → IsNeeded p requirements wishes picked solvable
-needed_by p requirements wishes picked place before Requested solvable is = requested solvable is
-needed_by p requirements wishes picked place before Wished solvable is = wished solvable is
+needed_by p requirements wishes picked place before (Requested k) solvable is =
+    requested solvable (any_at (Offers p (is_among p picked) solvable) requirements k is.0 is.1 is.2)
+needed_by p requirements wishes picked place before (Wished k) solvable is =
+    wished solvable (any_at (λ wish. Contains wish (record { solvable = solvable; is_picked = true })) wishes k is.0 is.1 is.2)
 needed_by p requirements wishes picked place before (Required k) solvable is =
     let parent = is.0 in
     let within = slice_get_within (take place picked) k parent is.1 in

@@ -1,13 +1,10 @@
 -- How many are false before the first that is true.
-use Rattle.std.proofs.Common.{◌≡◌, ◌∙◌, ℕ, zero, suc, ◌+◌, ◌<◌, ◌≤◌, Bool, true, false, ◌||◌, not, if◌then◌else◌, List, [], ◌∷◌, ◌++◌, length, map, take, get_or, ap, refl, sym, true≢false, add-one, arith}
-use Rattle.std.proofs.Math.Path.{fun_ext}
+use Rattle.std.proofs.Common.{◌≡◌, ◌∙◌, ℕ, zero, suc, ◌+◌, ◌<◌, ◌≤◌, Bool, true, false, ◌||◌, List, [], ◌∷◌, ◌++◌, length, map, take, get_or, ap, refl, sym, true≢false, add-one, arith}
 use Rattle.std.specs.List.{list_any}
 use Rattle.std.specs.Prelude.{◌⊎◌}
 use mathlib.Core.Logic.{⊎_elim}
 use Rattle.std.proofs.Common.{inl, inr}
-use Rattle.resolvo_pool.specs.Functions.{Provider}
-use Rattle.solutions.specs.Solutions.{is_among}
-use Rattle.solutions.specs.Wishes.{alternatives_of, before_true, rank}
+use Rattle.solutions.specs.Wishes.{alternatives_of, before_true}
 use Rattle.solutions.specs.declared.wish.Wish.{Wish}
 use Rattle.std.proofs.lemmas.List.{map_more}
 use Rattle.std.proofs.lemmas.Simd.{map-map}
@@ -73,19 +70,12 @@ before_taken (false ∷ bs) (suc n) =
     let is : suc n + 1 ≡ suc (n + 1) = omega arith in
     rw is (⊎_elim (λ same. inl (ap suc same)) (λ above. let low = above.0 in let high = above.1 in inr (omega arith, omega arith)) (before_taken bs n))
 
-module _ {N S : Type 0} (p : Provider N S) (picked : List S) where
-  -- by a test of what is picked
-  pub rank_by : (has : S → Bool) → ((s : S) → has s ≡ is_among p picked s) → (alternatives : List (Alternative S))
-      → before_true (map (λ a. if a.is_picked then has a.solvable else not (has a.solvable)) alternatives) ≡ rank p picked alternatives
-  rank_by has is alternatives =
-      ap (λ (h : S → Bool). before_true (map (λ a. if a.is_picked then h a.solvable else not (h a.solvable)) alternatives)) (fun_ext is)
-
-  -- one more wish
-  pub ranks_more : {A : Type 0} (wishes : List (Wish S A)) (i : ℕ) (wish : Wish S A) (ranks next : List ℕ) (n : ℕ) → i < length wishes → wish ≡ get_or wishes i wish
-      → next ≡ ranks ++ n ∷ [] → n ≡ rank p picked wish.alternatives.items → ranks ≡ map (rank p picked) (alternatives_of (take i wishes))
-      → next ≡ map (rank p picked) (alternatives_of (take (i + 1) wishes))
-  ranks_more {A} wishes i wish ranks next n below is pushed same so_far =
-      let f = λ (w : Wish S A). rank p picked w.alternatives.items in
-      let items = λ (w : Wish S A). w.alternatives.items in
-      pushed ∙ ap (λ ns. ns ++ n ∷ []) (so_far ∙ map-map (rank p picked) items (take i wishes)) ∙ ap (λ m. map f (take i wishes) ++ m ∷ []) (same ∙ ap f is)
-      ∙ sym (map_more f wishes i wish below) ∙ sym (map-map (rank p picked) items (take (i + 1) wishes))
+-- one more wish, by a function of alternatives
+pub ranks_more : {S A : Type 0} (rank_of : List (Alternative S) → ℕ) (wishes : List (Wish S A)) (i : ℕ) (wish : Wish S A) (ranks next : List ℕ) (n : ℕ)
+    → i < length wishes → wish ≡ get_or wishes i wish → next ≡ ranks ++ n ∷ [] → n ≡ rank_of wish.alternatives.items
+    → ranks ≡ map rank_of (alternatives_of (take i wishes)) → next ≡ map rank_of (alternatives_of (take (i + 1) wishes))
+ranks_more {S} {A} rank_of wishes i wish ranks next n below is pushed same so_far =
+    let f = λ (w : Wish S A). rank_of w.alternatives.items in
+    let items = λ (w : Wish S A). w.alternatives.items in
+    pushed ∙ ap (λ ns. ns ++ n ∷ []) (so_far ∙ map-map rank_of items (take i wishes)) ∙ ap (λ m. map f (take i wishes) ++ m ∷ []) (same ∙ ap f is)
+    ∙ sym (map_more f wishes i wish below) ∙ sym (map-map rank_of items (take (i + 1) wishes))

@@ -20,7 +20,7 @@ known_needs_satisfied p has needs requirements constrains known g b g_is satisfi
     subst (λ n. Decides b (AreNeedsSatisfied p has n)) (sym known) (λ yes. (satisfied.0 g_is, sym kept ∙ yes), λ both. kept ∙ both.1)
 
 -- what holds of all, and what else does
-All-both : {X : Type 0} (P Q : X → Type 0) (xs : List X) → All P xs → All Q xs → All (λ x. P x × Q x) xs
+pub All-both : {X : Type 0} (P Q : X → Type 0) (xs : List X) → All P xs → All Q xs → All (λ x. P x × Q x) xs
 All-both P Q [] ps qs = All-nil (λ x. P x × Q x)
 All-both P Q (x ∷ xs) ps qs =
     All-cons (λ y. P y × Q y) x xs (All-head P x xs ps, All-head Q x xs qs) (All-both P Q xs (All-tail P x xs ps) (All-tail Q x xs qs))

@@ -4,7 +4,6 @@ use Rattle.std.specs.Prelude.{◌≡◌, Bool, true, not, All, List, [], ◌∷�
 use Rattle.std.specs.List.{list_any}
 use Rattle.std.specs.declared.vec.Vec.{Vec}
 use Rattle.solutions.specs.declared.literal.Fact.{Fact}
-use Rattle.solutions.specs.declared.literal.Fact.TheVariants.{Picked}
 use Rattle.solutions.specs.declared.literal.Literal.{Literal}
 use Rattle.solutions.specs.declared.clause_state.ClauseState.{ClauseState}
 use Rattle.solutions.specs.declared.clause_state.ClauseState.TheVariants.{Falsified, Unit, Open}
@@ -23,10 +22,6 @@ module _ {N S : Type 0} (holds : Fact N S → Bool) where
   -- each clause has a true literal
   abbrev pub AreSatisfied : {A : Type 0} → List (Vec (Literal N S) A) → Type 0
   AreSatisfied clauses = All (λ c. has_true c.items ≡ true) clauses
-
-  -- at most one solvable of a name is picked
-  abbrev pub IsOneAName : Type 0
-  IsOneAName = (s t : S) (n : N) → holds (Picked s n) ≡ true → holds (Picked t n) ≡ true → s ≡ t
 
 -- what was known, and more: if an assignment is of this kind, and what was known is true, all of it is true. If yes,
 -- there is no such assignment
@@ -56,9 +51,7 @@ pub record IsClauseAdded {N S A : Type 0} (clauses : List (Vec (Literal N S) A))
 -- does so with the new ones. If yes, there is no such assignment
 pub record Replayed {N S A : Type 0} (clauses : List (Vec (Literal N S) A)) (known : List (Literal N S))
     (clauses_now : List (Vec (Literal N S) A)) (known_now : List (Literal N S)) (yes : Bool) : Type 0 where
-  pub are_satisfied : (holds : Fact N S → Bool) → IsOneAName holds → AreSatisfied holds clauses → AreTrue holds known →
+  pub are_satisfied : (holds : Fact N S → Bool) → AreSatisfied holds clauses → AreTrue holds known →
       AreSatisfied holds clauses_now
-  pub are_true : (holds : Fact N S → Bool) → IsOneAName holds → AreSatisfied holds clauses → AreTrue holds known →
-      AreTrue holds known_now
-  pub refuted : yes ≡ true → (holds : Fact N S → Bool) → IsOneAName holds → AreSatisfied holds clauses →
-      AreTrue holds known → ⊥
+  pub are_true : (holds : Fact N S → Bool) → AreSatisfied holds clauses → AreTrue holds known → AreTrue holds known_now
+  pub refuted : yes ≡ true → (holds : Fact N S → Bool) → AreSatisfied holds clauses → AreTrue holds known → ⊥

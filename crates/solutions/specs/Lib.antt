@@ -1,6 +1,8 @@
 pub mod Clauses
 pub mod Needed
 pub mod Newest
+pub mod Reasons
+pub mod Selections
 pub mod Settled
 pub mod Solutions
 pub mod Truth

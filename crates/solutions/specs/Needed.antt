@@ -22,7 +22,12 @@ module _ {N S : Type 0} (p : Provider N S) where
   is_offered requirement solvable =
       knows_requirement p.universe requirement && list_any (is_candidate solvable) (sets_of p.universe requirement)
 
--- one of the wishes has the alternative that the solvable is picked
+-- the wish at this place has the alternative that the solvable is picked
+abbrev pub IsWishedAt : {S : Type 0} → List (List (Alternative S)) → ℕ → S → Type 0
+IsWishedAt {S} wishes place solvable = (wish : List (Alternative S)) × (slice_get wishes place ≡ Some wish) ×
+    Contains wish (record { solvable = solvable; is_picked = true })
+
+-- one of the wishes has it
 abbrev pub IsWished : {S : Type 0} → List (List (Alternative S)) → S → Type 0
 IsWished wishes solvable = Any (λ wish. Contains wish (record { solvable = solvable; is_picked = true })) wishes
 
@@ -36,6 +41,11 @@ module _ {N S : Type 0} (p : Provider N S) (is_picked : S → Bool) where
   abbrev pub Offers : S → ConditionalRequirement → Type 0
   Offers solvable c = (is_offered p c.requirement solvable ≡ true) × HoldsIfAny c.condition
 
+  -- the requirement at this place does
+  abbrev pub IsOfferedAt : List ConditionalRequirement → ℕ → S → Type 0
+  IsOfferedAt requirements place solvable =
+      (c : ConditionalRequirement) × (slice_get requirements place ≡ Some c) × Offers solvable c
+
   -- one of the requirements does
   abbrev pub IsOfferedBy : List ConditionalRequirement → S → Type 0
   IsOfferedBy requirements solvable = Any (Offers solvable) requirements
@@ -48,8 +58,8 @@ module _ {N S : Type 0} (p : Provider N S) (is_picked : S → Bool) where
   -- the cause is so of the solvable, where these are picked before it
   abbrev pub IsCausedBy : List ConditionalRequirement → List (List (Alternative S)) → (before : List S) → Cause → S →
       Type 0
-  IsCausedBy requested wishes before Requested solvable = IsOfferedBy requested solvable
-  IsCausedBy requested wishes before Wished solvable = IsWished wishes solvable
+  IsCausedBy requested wishes before (Requested place) solvable = IsOfferedAt requested place solvable
+  IsCausedBy requested wishes before (Wished place) solvable = IsWishedAt wishes place solvable
   IsCausedBy requested wishes before (Required place) solvable =
       (parent : S) × (slice_get before place ≡ Some parent) × IsOfferedByNeeds (p.answers.needs parent) solvable
 

@@ -2,7 +2,7 @@
 -- N are the names, S the solvables, A the allocators.
 use Rattle.std.specs.Prelude.{◌≡◌, ℕ, ◌<◌, ◌≤◌, ◌⊎◌, Bool, List, map, slice_index}
 use Rattle.std.specs.declared.vec.Vec.{Vec}
-use Rattle.solutions.specs.Clauses.{AreSatisfied, AreTrue, IsOneAName, is_true}
+use Rattle.solutions.specs.Clauses.{AreSatisfied, AreTrue, is_true}
 use Rattle.solutions.specs.Wishes.{before_true}
 use Rattle.solutions.specs.declared.literal.Fact.{Fact}
 use Rattle.solutions.specs.declared.literal.Literal.{Literal}
@@ -12,9 +12,9 @@ use Rattle.solutions.specs.declared.literal.Literal.{Literal}
 pub record StaysTrue {N S A : Type 0} (IsSuch : (Fact N S → Bool) → Type 0) (clauses : List (Vec (Literal N S) A))
     (known : List (Literal N S)) (clauses_now : List (Vec (Literal N S) A)) (known_now : List (Literal N S)) : Type 0
   where
-    pub are_satisfied : (holds : Fact N S → Bool) → IsSuch holds → IsOneAName holds → AreSatisfied holds clauses →
+    pub are_satisfied : (holds : Fact N S → Bool) → IsSuch holds → AreSatisfied holds clauses →
         AreTrue holds known → AreSatisfied holds clauses_now
-    pub are_true : (holds : Fact N S → Bool) → IsSuch holds → IsOneAName holds → AreSatisfied holds clauses →
+    pub are_true : (holds : Fact N S → Bool) → IsSuch holds → AreSatisfied holds clauses →
         AreTrue holds known → AreTrue holds known_now
 
 -- how many literals are false before the first that is true; all, if none is
@@ -29,7 +29,7 @@ first_trues holds lists = map (λ list. first_true holds list.items) lists
 -- earlier than at the rank
 abbrev pub IsAtLeast : {N S A : Type 0} → List (Vec (Literal N S) A) → (known : List (Literal N S)) →
     (literals : List (Literal N S)) → ℕ → Type 0
-IsAtLeast {N} {S} clauses known literals rank = (holds : Fact N S → Bool) → IsOneAName holds →
+IsAtLeast {N} {S} clauses known literals rank = (holds : Fact N S → Bool) →
     AreSatisfied holds clauses → AreTrue holds known → rank ≤ first_true holds literals
 
 -- so it is; and if an assignment has its first true literal at the rank, it satisfies what is known now, too

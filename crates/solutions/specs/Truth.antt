@@ -1,6 +1,6 @@
 -- What is so of a selection of solvables, and what clauses say of it. N are the names, S the solvables, A the
 -- allocators.
-use Rattle.std.specs.Prelude.{◌≡◌, Bool, true, false, ◌&&◌, ◌||◌, List, All}
+use Rattle.std.specs.Prelude.{◌≡◌, Bool, true, false, ◌||◌, List, All, take}
 use Rattle.std.specs.List.{list_all, list_any}
 use Rattle.std.specs.declared.vec.Vec.{Vec}
 use Rattle.resolvo_ids.specs.Types.VersionSetId.{VersionSetId}
@@ -12,13 +12,14 @@ use Rattle.solutions.specs.Clauses.{AreSatisfied, has_true}
 use Rattle.solutions.specs.Solutions.{AreNeedsSatisfied, IsSatisfied, has_picked, is_allowed, is_among}
 use Rattle.solutions.specs.Solutions.{is_respected, is_satisfied}
 use Rattle.solutions.specs.declared.literal.Fact.{Fact}
-use Rattle.solutions.specs.declared.literal.Fact.TheVariants.{Picked, Held}
+use Rattle.solutions.specs.declared.literal.Fact.TheVariants.{Picked, Held, First}
 use Rattle.solutions.specs.declared.literal.Literal.{Literal}
 
--- the solvable is picked, and its package has the name; one is picked that the version set holds
+-- the solvable is picked; one is picked that the version set holds; one is picked of the package's first candidates
 abbrev pub truth : {N S : Type 0} → Provider N S → List S → Fact N S → Bool
-truth p picked (Picked s n) = is_among p picked s && p.same_name (p.universe.solvable_name s) n
+truth p picked (Picked s) = is_among p picked s
 truth p picked (Held set) = has_picked p (is_among p picked) set
+truth p picked (First n count) = list_any (is_among p picked) (take count (p.answers.candidates n))
 
 -- if this is so of a selection, and it satisfies the old clauses, it satisfies the new ones
 abbrev pub AreStillSatisfied : {N S A : Type 0} → Provider N S → (List S → Type 0) →

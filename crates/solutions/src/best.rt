@@ -1,20 +1,24 @@
 //! For how many wishes no solution is better.
-ghost use Rattle.std.specs.Prelude.{◌≡◌, ℕ, ◌+◌, ◌≤◌, List, length, map, take, slice_index, IfOk};
+ghost use Rattle.std.specs.Prelude.{◌≡◌, ℕ, ◌+◌, ◌≤◌, List, [], length, map, take, slice_index, IfOk};
 ghost use Rattle.solutions.specs.Settled.{AreSameUpTo, IsUnbeaten, first_trues};
 ghost use Rattle.solutions.specs.Clauses.{is_true};
+ghost use Rattle.solutions.specs.Reasons.{AreSo};
 ghost use Rattle.solutions.specs.Solutions.{IsSolution};
-ghost use Rattle.solutions.specs.Truth.{truth};
+ghost use Rattle.solutions.specs.Truth.{AreStillSatisfied, truth};
 ghost use Rattle.solutions.specs.Wishes.{IsBest, alternatives_of, is_so, rank};
 
 use crate::atoms::Atoms;
-use crate::encoding::{Encoder, encoded_by};
+use crate::clauses::Theory;
+use crate::encoded::encoded;
+use crate::encoding::Encoder;
 use crate::evidence::Evidence;
 use crate::literal::Literal;
 use crate::ranking::ranks;
+use crate::reasons::are_so;
 use crate::refuting::Replay;
 use crate::wish::{Alternative, Request, Wish};
 use resolvo_ids::StoreError;
-use resolvo_pool::{DependencyProvider, ProviderFunctions};
+use resolvo_pool::{ConditionalRequirement, DependencyProvider, ProviderFunctions};
 
 /// For how many of the wishes, from the first on, what is picked is the best solution, if it is one: as far as the
 /// evidence shows. Without evidence these are the wishes up to the first whose first alternative isn't so.
@@ -22,14 +26,14 @@ use resolvo_pool::{DependencyProvider, ProviderFunctions};
 /// Refused `UnknownId` if a wish has a solvable that the provider doesn't know. The provider is queried after each
 /// learnt clause whether to stop.
 ///
-/// Costs what `refutes` does, and for each alternative that would be better what its propagation visits. Nothing is
-/// replayed if the first alternative of each wish is so.
+/// Costs what `are_so` and `are_enough` do, and for each alternative that would be better what its propagation visits.
+/// Nothing is replayed if the first alternative of each wish is so.
 pub fn best_up_to<D: DependencyProvider>(
     alloc: D::Alloc,
     provider: &D,
     request: &Request<D::SolvableId, D::Alloc>,
     picked: &[D::SolvableId],
-    evidence: &Evidence<D::SolvableId, D::Alloc>,
+    evidence: &Evidence<D::NameId, D::SolvableId, D::Alloc>,
 ) -> Result<usize, StoreError>
     ensures { IfOk result (λ count. IsSolution (⟦<D as ProviderFunctions>⟧.functions provider.now)
         request.now.requirements.now picked.now → IsBest (⟦<D as ProviderFunctions>⟧.functions provider.now)
@@ -65,19 +69,39 @@ fn unbeaten<D: DependencyProvider>(
     provider: &D,
     request: &Request<D::SolvableId, D::Alloc>,
     ranks: &[usize],
-    evidence: &Evidence<D::SolvableId, D::Alloc>,
+    evidence: &Evidence<D::NameId, D::SolvableId, D::Alloc>,
 ) -> Result<usize, StoreError>
     ensures { IfOk result (λ count. (other : List D.SolvableId) →
         IsSolution (⟦<D as ProviderFunctions>⟧.functions provider.now) request.now.requirements.now other →
         IsUnbeaten count ranks.now (map (rank (⟦<D as ProviderFunctions>⟧.functions provider.now) other)
         (alternatives_of request.now.wishes.now))) }
 {
+    if !are_so(alloc, provider, request.requirements, evidence.reasons)? {
+        return Ok(0);
+    }
     let encoder = Encoder { alloc, provider };
-    let mut theory = encoded_by(&encoder, request.requirements, evidence.solvables)?;
+    let mut theory = theory_of(&encoder, request.requirements, evidence)?;
     let lists = wish_literals(&encoder, &mut theory.atoms, request.wishes, ranks)?;
     let mut replay = Replay::new(alloc, theory)?;
     replay.all(provider, evidence.learnt)?;
     replay.settle_all(&lists, ranks)
+}
+
+/// Clauses that each solution satisfies: of reasons that are so, and of solvables that aren't allowed.
+fn theory_of<D: DependencyProvider>(
+    encoder: &Encoder<D>,
+    requested: &[ConditionalRequirement],
+    evidence: &Evidence<D::NameId, D::SolvableId, D::Alloc>,
+) -> Result<Theory<D::NameId, D::SolvableId, D::Alloc>, StoreError>
+    requires { AreSo (⟦<D as ProviderFunctions>⟧.functions encoder.now.provider.now) requested.now
+        evidence.now.reasons.now }
+    ensures { IfOk result (λ theory. AreStillSatisfied (⟦<D as ProviderFunctions>⟧.functions encoder.now.provider.now)
+        (IsSolution (⟦<D as ProviderFunctions>⟧.functions encoder.now.provider.now) requested.now)
+        [] theory.clauses.items) }
+{
+    let mut theory = encoded(encoder, evidence.reasons)?;
+    encoder.forbid_all_unlisted(&mut theory, evidence.unlisted)?;
+    Ok(theory)
 }
 
 /// That the alternatives of wishes are so, up to the one at each wish's rank.

@@ -1,12 +1,11 @@
 //! Clauses, and unit propagation over them.
 ghost use Rattle.std.specs.Prelude.{◌≡◌, Bool, true, not, All, [], ◌∷◌, ◌++◌, IfOk, OnOk};
-ghost use Rattle.solutions.specs.Clauses.{AreSatisfied, AreTrue, Follows, IsOneAName, IsClauseAdded, is_true};
+ghost use Rattle.solutions.specs.Clauses.{AreSatisfied, AreTrue, Follows, IsClauseAdded, is_true};
 ghost use Rattle.solutions.specs.declared.literal.Fact.{Fact};
-ghost use Rattle.solutions.specs.declared.literal.Fact.TheVariants.{Picked};
 
-use crate::atoms::{Atoms, Packages};
+use crate::atoms::Atoms;
 use crate::clause_state::{ClauseState, state_of};
-use crate::literal::{Atom, Fact, Literal};
+use crate::literal::Literal;
 use crate::trail::Trail;
 use crate::watches::{Cursor, Sign};
 use resolvo_ids::{SameId, SolverId, StoreError};
@@ -66,23 +65,20 @@ impl<N: SolverId<A>, S: SolverId<A>, A: Allocator + Copy> Theory<N, S, A> {
     {
         Rules {
             clauses: self.clauses.as_slice(),
-            packages: &self.atoms.packages,
         }
     }
 }
 
-/// What propagates literals: clauses, and that at most one version of a package is picked. When a literal becomes
-/// known, the clauses that watch its opposite are visited, and the other versions of its package.
+/// What propagates literals: clauses. When a literal becomes known, those that watch its opposite are visited.
 #[derive(Clone, Copy)]
 pub(crate) struct Rules<'t, N: SameId, S: SameId, A: Allocator + Copy> {
     pub(crate) clauses: &'t [Vec<Literal<N, S>, A>],
-    packages: &'t Packages<N, S, A>,
 }
 
 impl<'t, N: SameId, S: SameId, A: Allocator + Copy> Rules<'t, N, S, A> {
     /// Propagates all clauses. Answers whether they contradict what is known.
     pub(crate) fn propagate_all(&self, trail: &mut Trail<N, S, A>) -> Result<bool, StoreError>
-        ensures { IfOk result (Follows (λ holds. IsOneAName holds × AreSatisfied holds self.now.clauses.now)
+        ensures { IfOk result (Follows (λ holds. AreSatisfied holds self.now.clauses.now)
             trail.old.literals.items trail.new.literals.items) }
     {
         if self.visit_all(trail)? {
@@ -129,7 +125,7 @@ impl<'t, N: SameId, S: SameId, A: Allocator + Copy> Rules<'t, N, S, A> {
         trail: &mut Trail<N, S, A>,
         place: usize,
     ) -> Result<bool, StoreError>
-        ensures { IfOk result (Follows (λ holds. IsOneAName holds × AreSatisfied holds self.now.clauses.now)
+        ensures { IfOk result (Follows (λ holds. AreSatisfied holds self.now.clauses.now)
             trail.old.literals.items trail.new.literals.items) }
     {
         let count = trail.literals.len();
@@ -145,7 +141,7 @@ impl<'t, N: SameId, S: SameId, A: Allocator + Copy> Rules<'t, N, S, A> {
         trail: &mut Trail<N, S, A>,
         assumed: &[Literal<N, S>],
     ) -> Result<bool, StoreError>
-        ensures refuted { IfOk result (λ yes. yes ≡ true → (holds : Fact N S → Bool) → IsOneAName holds →
+        ensures refuted { IfOk result (λ yes. yes ≡ true → (holds : Fact N S → Bool) →
             AreSatisfied holds self.now.clauses.now → AreTrue holds trail.old.literals.items →
             AreTrue holds assumed.now → ⊥) }
         ensures rolled_back { OnOk result (trail.new.literals.items ≡ trail.old.literals.items) }
@@ -162,8 +158,8 @@ impl<'t, N: SameId, S: SameId, A: Allocator + Copy> Rules<'t, N, S, A> {
         trail: &mut Trail<N, S, A>,
         assumed: &[Literal<N, S>],
     ) -> Result<bool, StoreError>
-        ensures { IfOk result (Follows (λ holds. IsOneAName holds × (AreSatisfied holds self.now.clauses.now
-            × AreTrue holds assumed.now)) trail.old.literals.items trail.new.literals.items) }
+        ensures { IfOk result (Follows (λ holds. AreSatisfied holds self.now.clauses.now ×
+            AreTrue holds assumed.now) trail.old.literals.items trail.new.literals.items) }
     {
         let count = trail.literals.len();
         if assume(trail, assumed)? {
@@ -174,51 +170,15 @@ impl<'t, N: SameId, S: SameId, A: Allocator + Copy> Rules<'t, N, S, A> {
 
     /// Adds what follows from the literals from a place on, and from what that adds.
     fn propagate(&self, trail: &mut Trail<N, S, A>, from: usize) -> Result<bool, StoreError>
-        ensures { IfOk result (Follows (λ holds. IsOneAName holds × AreSatisfied holds self.now.clauses.now)
+        ensures { IfOk result (Follows (λ holds. AreSatisfied holds self.now.clauses.now)
             trail.old.literals.items trail.new.literals.items) }
     {
         for place in from..usize::MAX {
             let Some(found) = trail.literals.get(place) else {
                 return Ok(false);
             };
-            let literal = *found;
-            if self.propagate_literal(trail, literal)? {
-                return Ok(true);
-            }
-        }
-        Ok(false)
-    }
-
-    /// Propagates a literal that is known.
-    fn propagate_literal(
-        &self,
-        trail: &mut Trail<N, S, A>,
-        literal: Literal<N, S>,
-    ) -> Result<bool, StoreError>
-        requires { (holds : Fact N S → Bool) → AreTrue holds trail.old.literals.items → is_true holds literal ≡ true }
-        ensures { IfOk result (Follows (λ holds. IsOneAName holds × AreSatisfied holds self.now.clauses.now)
-            trail.old.literals.items trail.new.literals.items) }
-    {
-        if self.forbid_others(trail, literal)? {
-            return Ok(true);
-        }
-        self.visit_watchers(trail, literal.sign().opposite())
-    }
-
-    /// If a literal that is known picks a version, the others of its package aren't picked.
-    fn forbid_others(
-        &self,
-        trail: &mut Trail<N, S, A>,
-        literal: Literal<N, S>,
-    ) -> Result<bool, StoreError>
-        requires { (holds : Fact N S → Bool) → AreTrue holds trail.old.literals.items → is_true holds literal ≡ true }
-        ensures { IfOk result (Follows IsOneAName trail.old.literals.items trail.new.literals.items) }
-    {
-        let Some(others) = self.packages.of(literal.number) else {
-            return Ok(false);
-        };
-        for other in others {
-            if forbid_rival(trail, literal, *other)? {
+            let sign = found.sign().opposite();
+            if self.visit_watchers(trail, sign)? {
                 return Ok(true);
             }
         }
@@ -272,34 +232,4 @@ fn assume<N: SameId, S: SameId, A: Allocator + Copy>(
         }
     }
     Ok(false)
-}
-
-/// If a literal that is known picks a version, another one of a package of the same name isn't picked.
-fn forbid_rival<N: SameId, S: SameId, A: Allocator + Copy>(
-    trail: &mut Trail<N, S, A>,
-    literal: Literal<N, S>,
-    other: Atom<N, S>,
-) -> Result<bool, StoreError>
-    requires { (holds : Fact N S → Bool) → AreTrue holds trail.old.literals.items → is_true holds literal ≡ true }
-    ensures { IfOk result (Follows IsOneAName trail.old.literals.items trail.new.literals.items) }
-{
-    if literal.value && is_rival(&literal.fact, &other.fact) {
-        trail.add(Literal::new(other, false))
-    } else {
-        Ok(false)
-    }
-}
-
-/// Whether two facts are that different versions are picked, of packages of one name.
-fn is_rival<N: SameId, S: SameId>(one: &Fact<N, S>, other: &Fact<N, S>) -> bool
-    ensures { result ≡ true → (holds : Fact N S → Bool) → IsOneAName holds → holds one.now ≡ true →
-        holds other.now ≡ true → ⊥ }
-{
-    match one {
-        Fact::Picked(solvable, name) => match other {
-            Fact::Picked(another, its) => *solvable != *another && *name == *its,
-            Fact::Held(_) => false,
-        },
-        Fact::Held(_) => false,
-    }
 }

@@ -1,58 +1,24 @@
-//! What packages say of each solution, as clauses.
+//! Requirements and constraints as clauses.
 ghost use Rattle.std.specs.Prelude.{◌≡◌, ◌∷◌, Bool, true, false, not, All, List, [], IfOk, OnOk, map, ⊤};
 ghost use Rattle.std.specs.List.{list_any, list_all};
 ghost use Rattle.resolvo_ids.specs.Types.VersionSetId.{VersionSetId};
 ghost use Rattle.resolvo_pool.specs.Conditions.{Denotes, Formula, form_holds, formula_holds};
 ghost use Rattle.resolvo_pool.specs.Provider.{filtered, knows_requirement};
 ghost use Rattle.solutions.specs.Clauses.{has_true};
-ghost use Rattle.solutions.specs.Solutions.{AreNeedsSatisfied, IsSatisfied, IsSolution};
-ghost use Rattle.solutions.specs.Solutions.{has_picked, is_among, is_satisfied};
-ghost use Rattle.resolvo_pool.specs.Dependencies.{Known};
-ghost use Rattle.solutions.specs.Truth.{AreAllFit, AreNeedsSatisfiedUnless, AreRespectedUnless, AreSatisfiedUnless};
-ghost use Rattle.solutions.specs.Truth.{NonePickedUnless, AreStillSatisfied, HasTrueOr, IsSatisfiedUnless, truth};
+ghost use Rattle.solutions.specs.Solutions.{IsSatisfied, has_picked, is_among, is_satisfied};
+ghost use Rattle.solutions.specs.Truth.{AreSatisfiedUnless, AreStillSatisfied, HasTrueOr, IsSatisfiedUnless};
+ghost use Rattle.solutions.specs.Truth.{NonePickedUnless, truth};
 ghost use Rattle.solutions.specs.declared.literal.Fact.TheVariants.{Held, Picked};
 
-use crate::allowed::is_allowed;
 use crate::atoms::Atoms;
 use crate::clauses::Theory;
 use crate::literal::{Atom, Literal};
 use crate::queries::{candidates, knows};
-use resolvo_ids::{ConditionId, SolverId, StoreError, VersionSetId};
+use resolvo_ids::{ConditionId, StoreError, VersionSetId};
 use resolvo_pool::{
-    ConditionalRequirement, Dependencies, DependencyProvider, Interner, ProviderFunctions,
-    Requirement, convert_conditions_to_dnf,
+    ConditionalRequirement, DependencyProvider, Interner, ProviderFunctions, Requirement,
+    convert_conditions_to_dnf,
 };
-
-/// Clauses that each solution of a request satisfies: those of the request, and what some solvables say.
-pub(crate) fn encoded<D: DependencyProvider>(
-    alloc: D::Alloc,
-    provider: &D,
-    requested: &[ConditionalRequirement],
-    solvables: &[D::SolvableId],
-) -> Result<Theory<D::NameId, D::SolvableId, D::Alloc>, StoreError>
-    ensures { IfOk result (λ theory. AreStillSatisfied (⟦<D as ProviderFunctions>⟧.functions provider.now)
-        (IsSolution (⟦<D as ProviderFunctions>⟧.functions provider.now) requested.now) [] theory.clauses.items) }
-{
-    let encoder = Encoder { alloc, provider };
-    encoded_by(&encoder, requested, solvables)
-}
-
-/// The same clauses, by an encoder.
-pub(crate) fn encoded_by<D: DependencyProvider>(
-    encoder: &Encoder<D>,
-    requested: &[ConditionalRequirement],
-    solvables: &[D::SolvableId],
-) -> Result<Theory<D::NameId, D::SolvableId, D::Alloc>, StoreError>
-    ensures { IfOk result (λ theory. AreStillSatisfied (⟦<D as ProviderFunctions>⟧.functions encoder.now.provider.now)
-        (IsSolution (⟦<D as ProviderFunctions>⟧.functions encoder.now.provider.now) requested.now)
-        [] theory.clauses.items) }
-{
-    let mut theory = Theory::new(encoder.alloc)?;
-    let none = Vec::new(encoder.alloc);
-    encoder.require_all(&mut theory, &none, requested)?;
-    encoder.encode_all(&mut theory, solvables)?;
-    Ok(theory)
-}
 
 /// Writes clauses.
 #[derive(Drop)]
@@ -62,116 +28,23 @@ pub(crate) struct Encoder<'p, D: DependencyProvider> {
 }
 
 impl<'p, D: DependencyProvider> Encoder<'p, D> {
-    /// Says that a solvable that isn't allowed isn't picked, and what each other one of these needs, if it is picked.
-    fn encode_all(
-        &self,
-        theory: &mut Theory<D::NameId, D::SolvableId, D::Alloc>,
-        solvables: &[D::SolvableId],
-    ) -> Result<(), StoreError>
-        ensures { OnOk result (AreStillSatisfied (⟦<D as ProviderFunctions>⟧.functions self.now.provider.now)
-            (AreAllFit (⟦<D as ProviderFunctions>⟧.functions self.now.provider.now))
-            theory.old.clauses.items theory.new.clauses.items) }
-    {
-        for solvable in solvables {
-            self.encode_solvable(theory, *solvable)?;
-        }
-        Ok(())
-    }
-
-    /// Says that a solvable isn't picked, if it isn't allowed; otherwise what it needs, if it is picked.
-    fn encode_solvable(
-        &self,
-        theory: &mut Theory<D::NameId, D::SolvableId, D::Alloc>,
-        solvable: D::SolvableId,
-    ) -> Result<(), StoreError>
-        ensures { OnOk result (AreStillSatisfied (⟦<D as ProviderFunctions>⟧.functions self.now.provider.now)
-            (AreAllFit (⟦<D as ProviderFunctions>⟧.functions self.now.provider.now))
-            theory.old.clauses.items theory.new.clauses.items) }
-    {
-        let atom = self.picked(&mut theory.atoms, solvable)?;
-        let unpicked = Literal::new(atom, false);
-        if !is_allowed(self.alloc, self.provider, solvable)? {
-            return theory.add_unit(self.alloc, unpicked);
-        }
-        self.encode_dependencies(theory, unpicked, solvable)
-    }
-
-    /// Says that, unless the literal is true, what a solvable needs is known and satisfied.
-    fn encode_dependencies(
-        &self,
-        theory: &mut Theory<D::NameId, D::SolvableId, D::Alloc>,
-        unless: Literal<D::NameId, D::SolvableId>,
-        solvable: D::SolvableId,
-    ) -> Result<(), StoreError>
-        requires { (D.universe self.now.provider.now).knows_solvable solvable ≡ true }
-        ensures { OnOk result (AreStillSatisfied (⟦<D as ProviderFunctions>⟧.functions self.now.provider.now)
-            (λ picked. AreNeedsSatisfiedUnless (⟦<D as ProviderFunctions>⟧.functions self.now.provider.now)
-            (unless ∷ []) picked ((D.answers self.now.provider.now).needs solvable))
-            theory.old.clauses.items theory.new.clauses.items) }
-    {
-        match self.provider.get_dependencies(self.alloc, solvable)? {
-            Dependencies::Known(needs) => {
-                self.encode_needs(theory, unless, &needs.requirements, &needs.constrains)
-            }
-            Dependencies::Unknown(_) => theory.add_unit(self.alloc, unless),
-        }
-    }
-
-    /// Says that, unless the literal is true, each requirement is satisfied, and each constraint respected.
-    fn encode_needs(
-        &self,
-        theory: &mut Theory<D::NameId, D::SolvableId, D::Alloc>,
-        unless: Literal<D::NameId, D::SolvableId>,
-        requirements: &[ConditionalRequirement],
-        constrains: &[VersionSetId],
-    ) -> Result<(), StoreError>
-        ensures { OnOk result (AreStillSatisfied (⟦<D as ProviderFunctions>⟧.functions self.now.provider.now)
-            (λ picked. AreNeedsSatisfiedUnless (⟦<D as ProviderFunctions>⟧.functions self.now.provider.now)
-            (unless ∷ []) picked (Known requirements.now constrains.now))
-            theory.old.clauses.items theory.new.clauses.items) }
-    {
-        let mut literals = Vec::new(self.alloc);
-        literals.push(unless)?;
-        self.require_all(theory, &literals, requirements)?;
-        self.constrain_all(theory, unless, constrains)
-    }
-
     /// That a solvable is picked.
     pub(crate) fn picked(
         &self,
         atoms: &mut Atoms<D::NameId, D::SolvableId, D::Alloc>,
         solvable: D::SolvableId,
     ) -> Result<Atom<D::NameId, D::SolvableId>, StoreError>
-        ensures fact { IfOk result (λ atom. atom.fact ≡
-            Picked solvable ((D.universe self.now.provider.now).solvable_name solvable)) }
+        ensures fact { IfOk result (λ atom. atom.fact ≡ Picked solvable) }
         ensures known { OnOk result ((D.universe self.now.provider.now).knows_solvable solvable ≡ true) }
     {
         if !self.provider.knows_solvable(solvable) {
             return Err(StoreError::UnknownId);
         }
-        atoms.picked(solvable, self.provider.solvable_name(solvable))
-    }
-
-    /// Says that, unless one of the literals is true, each of the requirements is satisfied.
-    fn require_all(
-        &self,
-        theory: &mut Theory<D::NameId, D::SolvableId, D::Alloc>,
-        unless: &[Literal<D::NameId, D::SolvableId>],
-        requirements: &[ConditionalRequirement],
-    ) -> Result<(), StoreError>
-        ensures { OnOk result (AreStillSatisfied (⟦<D as ProviderFunctions>⟧.functions self.now.provider.now)
-            (λ picked. AreSatisfiedUnless (⟦<D as ProviderFunctions>⟧.functions self.now.provider.now)
-            unless.now picked requirements.now)
-            theory.old.clauses.items theory.new.clauses.items) }
-    {
-        for requirement in requirements {
-            self.require(theory, unless, *requirement)?;
-        }
-        Ok(())
+        atoms.picked(solvable)
     }
 
     /// Says that, unless one of the literals is true, a requirement is satisfied.
-    fn require(
+    pub(crate) fn require(
         &self,
         theory: &mut Theory<D::NameId, D::SolvableId, D::Alloc>,
         unless: &[Literal<D::NameId, D::SolvableId>],
@@ -381,7 +254,7 @@ impl<'p, D: DependencyProvider> Encoder<'p, D> {
 
     /// Says that, unless the literal is true, none is picked of a version set's candidates, or, if `inverse`, of those
     /// that it doesn't hold.
-    fn forbid_candidates(
+    pub(crate) fn forbid_candidates(
         &self,
         theory: &mut Theory<D::NameId, D::SolvableId, D::Alloc>,
         unless: Literal<D::NameId, D::SolvableId>,
@@ -397,24 +270,6 @@ impl<'p, D: DependencyProvider> Encoder<'p, D> {
     {
         let found = self.candidates(set, inverse)?;
         self.forbid_all(theory, unless, &found)
-    }
-
-    /// Says that, unless the literal is true, each of the constraints is respected.
-    fn constrain_all(
-        &self,
-        theory: &mut Theory<D::NameId, D::SolvableId, D::Alloc>,
-        unless: Literal<D::NameId, D::SolvableId>,
-        sets: &[VersionSetId],
-    ) -> Result<(), StoreError>
-        ensures { OnOk result (AreStillSatisfied (⟦<D as ProviderFunctions>⟧.functions self.now.provider.now)
-            (λ picked. AreRespectedUnless (⟦<D as ProviderFunctions>⟧.functions self.now.provider.now)
-            (unless ∷ []) picked sets.now)
-            theory.old.clauses.items theory.new.clauses.items) }
-    {
-        for set in sets {
-            self.forbid_candidates(theory, unless, *set, true)?;
-        }
-        Ok(())
     }
 
     /// The candidates of its package that a version set holds, or, if `inverse`, those that it doesn't.

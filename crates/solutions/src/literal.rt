@@ -7,10 +7,12 @@ use resolvo_ids::{SameId, VersionSetId};
 /// What may be so of a selection.
 #[derive(Clone, Copy)]
 pub(crate) enum Fact<N, S> {
-    /// The solvable is picked, and this is the name of its package.
-    Picked(S, N),
+    /// The solvable is picked.
+    Picked(S),
     /// A candidate that the version set holds is picked.
     Held(VersionSetId),
+    /// One of the package's first candidates is picked: of this many.
+    First(N, usize),
 }
 
 impl<N: SameId, S: SameId> Fact<N, S> {
@@ -19,13 +21,17 @@ impl<N: SameId, S: SameId> Fact<N, S> {
         ensures { IsTrue result → self.now ≡ other.now }
     {
         match self {
-            Fact::Picked(solvable, name) => match other {
-                Fact::Picked(another, its) => *solvable == *another && *name == *its,
-                Fact::Held(_) => false,
+            Fact::Picked(solvable) => match other {
+                Fact::Picked(another) => *solvable == *another,
+                _ => false,
             },
             Fact::Held(set) => match other {
                 Fact::Held(another) => *set == *another,
-                Fact::Picked(_, _) => false,
+                _ => false,
+            },
+            Fact::First(name, count) => match other {
+                Fact::First(another, its) => *name == *another && *count == *its,
+                _ => false,
             },
         }
     }

@@ -1,30 +1,31 @@
 //! Whether what is picked is needed.
 ghost use Rattle.std.specs.Prelude.{◌≡◌, ◌&&◌, ◌<◌, true, Some, All, IfOk, length, slice_get, take};
 ghost use Rattle.std.specs.List.{list_any};
-ghost use Rattle.solutions.specs.Needed.{IsCausedBy, IsNeeded, IsOfferedByNeeds, IsWished};
+ghost use Rattle.solutions.specs.Needed.{IsCausedBy, IsNeeded, IsOfferedAt, IsOfferedByNeeds, IsWishedAt};
+ghost use Rattle.solutions.specs.Selections.{is_kept};
 ghost use Rattle.solutions.specs.Wishes.{alternatives_of};
 
-use crate::offers::{is_offered_by, is_offered_by_needs};
+use crate::offers::{is_offered_by_needs, offers};
 use crate::selection::Selection;
 use crate::solution::select;
 use crate::wish::{Alternative, Request, Wish};
 use resolvo_ids::{SolverId, StoreError};
-use resolvo_pool::{DependencyProvider, Interner, ProviderFunctions};
+use resolvo_pool::{ConditionalRequirement, DependencyProvider, Interner, ProviderFunctions};
 use std::alloc::Allocator;
 
 /// Why a solvable is picked.
 #[derive(Clone, Copy, Debug, PartialEq, Eq)]
 pub enum Cause {
-    /// A requirement of the request offers it.
-    Requested,
-    /// A wish has it.
-    Wished,
+    /// The requirement at this place of the request offers it.
+    Requested(usize),
+    /// The wish at this place has it.
+    Wished(usize),
     /// The solvable at this place of what is picked needs it: a requirement of its dependencies offers it.
     Required(usize),
 }
 
-/// Whether each picked solvable is needed, by the cause at its place. A cause that names a place counts only if that
-/// place comes before.
+/// Whether each picked solvable is needed, by the cause at its place. A cause that names another picked solvable counts
+/// only if that one comes before.
 pub fn are_needed<D: DependencyProvider>(
     alloc: D::Alloc,
     provider: &D,
@@ -70,13 +71,39 @@ fn is_caused_by<D: DependencyProvider>(
     solvable: D::SolvableId,
 ) -> Result<bool, StoreError>
     ensures { IfOk result (λ yes. yes ≡ true → IsCausedBy
-        (⟦<D as ProviderFunctions>⟧.functions selection.now.provider.now) (D.SolvableId.Set.has selection.now.picked)
+        (⟦<D as ProviderFunctions>⟧.functions selection.now.provider.now)
+        (is_kept D.SolvableId.eq (D.SolvableId.Set.has selection.now.picked) selection.now.left_out)
         request.now.requirements.now (alternatives_of request.now.wishes.now) before.now cause solvable) }
 {
     match cause {
-        Cause::Requested => is_offered_by(selection, request.requirements, solvable),
-        Cause::Wished => Ok(is_wished::<D::SolvableId, D::Alloc>(request.wishes, solvable)),
+        Cause::Requested(place) => is_requested_at(
+            selection,
+            request.requirements,
+            place,
+            solvable,
+        ),
+        Cause::Wished(place) => {
+            Ok(is_wished_at::<D::SolvableId, D::Alloc>(request.wishes, place, solvable))
+        }
         Cause::Required(place) => is_required_by(selection, before, place, solvable),
+    }
+}
+
+/// Whether the requirement at a place offers a solvable.
+fn is_requested_at<D: DependencyProvider>(
+    selection: &Selection<D>,
+    requirements: &[ConditionalRequirement],
+    place: usize,
+    solvable: D::SolvableId,
+) -> Result<bool, StoreError>
+    ensures { IfOk result (λ yes. yes ≡ true → IsOfferedAt
+        (⟦<D as ProviderFunctions>⟧.functions selection.now.provider.now)
+        (is_kept D.SolvableId.eq (D.SolvableId.Set.has selection.now.picked) selection.now.left_out)
+        requirements.now place solvable) }
+{
+    match requirements.get(place) {
+        Some(requirement) => offers(selection, *requirement, solvable),
+        None => Ok(false),
     }
 }
 
@@ -89,7 +116,8 @@ fn is_required_by<D: DependencyProvider>(
 ) -> Result<bool, StoreError>
     ensures { IfOk result (λ yes. yes ≡ true → (parent : D.SolvableId) × (slice_get before.now place ≡ Some parent) ×
         IsOfferedByNeeds (⟦<D as ProviderFunctions>⟧.functions selection.now.provider.now)
-        (D.SolvableId.Set.has selection.now.picked) ((D.answers selection.now.provider.now).needs parent) solvable) }
+        (is_kept D.SolvableId.eq (D.SolvableId.Set.has selection.now.picked) selection.now.left_out) ((D.answers
+        selection.now.provider.now).needs parent) solvable) }
 {
     let Some(parent) = before.get(place) else {
         return Ok(false);
@@ -100,16 +128,18 @@ fn is_required_by<D: DependencyProvider>(
     is_offered_by_needs(selection, *parent, solvable)
 }
 
-/// Whether one of the wishes has the alternative that a solvable is picked.
-fn is_wished<S: SolverId<A>, A: Allocator + Copy>(wishes: &[Wish<S, A>], solvable: S) -> bool
-    ensures { result ≡ true → IsWished (alternatives_of wishes.now) solvable }
+/// Whether the wish at a place has the alternative that a solvable is picked.
+fn is_wished_at<S: SolverId<A>, A: Allocator + Copy>(
+    wishes: &[Wish<S, A>],
+    place: usize,
+    solvable: S,
+) -> bool
+    ensures { result ≡ true → IsWishedAt (alternatives_of wishes.now) place solvable }
 {
-    for wish in wishes {
-        if has_picked(&wish.alternatives, solvable) {
-            return true;
-        }
+    match wishes.get(place) {
+        Some(wish) => has_picked(&wish.alternatives, solvable),
+        None => false,
     }
-    false
 }
 
 /// Whether one of the alternatives is that a solvable is picked.

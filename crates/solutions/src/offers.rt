@@ -3,6 +3,7 @@ ghost use Rattle.std.specs.Prelude.{◌≡◌, true, IfOk};
 ghost use Rattle.std.specs.Bool.{Decides};
 ghost use Rattle.std.specs.List.{list_any};
 ghost use Rattle.solutions.specs.Needed.{HoldsIfAny, IsOfferedBy, IsOfferedByNeeds, Offers, is_candidate, is_offered};
+ghost use Rattle.solutions.specs.Selections.{is_kept};
 
 use crate::queries::{candidates, knows};
 use crate::selection::Selection;
@@ -13,13 +14,14 @@ use resolvo_pool::{
 };
 
 /// Whether one of the requirements, whose condition holds if it has one, offers a solvable.
-pub(crate) fn is_offered_by<D: DependencyProvider>(
+fn is_offered_by<D: DependencyProvider>(
     selection: &Selection<D>,
     requirements: &[ConditionalRequirement],
     solvable: D::SolvableId,
 ) -> Result<bool, StoreError>
     ensures { IfOk result (λ yes. Decides yes (IsOfferedBy
-        (⟦<D as ProviderFunctions>⟧.functions selection.now.provider.now) (D.SolvableId.Set.has selection.now.picked)
+        (⟦<D as ProviderFunctions>⟧.functions selection.now.provider.now)
+        (is_kept D.SolvableId.eq (D.SolvableId.Set.has selection.now.picked) selection.now.left_out)
         requirements.now solvable)) }
 {
     for requirement in requirements {
@@ -38,7 +40,8 @@ pub(crate) fn is_offered_by_needs<D: DependencyProvider>(
 ) -> Result<bool, StoreError>
     requires { (D.universe selection.now.provider.now).knows_solvable parent ≡ true }
     ensures { IfOk result (λ yes. Decides yes (IsOfferedByNeeds
-        (⟦<D as ProviderFunctions>⟧.functions selection.now.provider.now) (D.SolvableId.Set.has selection.now.picked)
+        (⟦<D as ProviderFunctions>⟧.functions selection.now.provider.now)
+        (is_kept D.SolvableId.eq (D.SolvableId.Set.has selection.now.picked) selection.now.left_out)
         ((D.answers selection.now.provider.now).needs parent) solvable)) }
 {
     match selection
@@ -51,13 +54,14 @@ pub(crate) fn is_offered_by_needs<D: DependencyProvider>(
 }
 
 /// Whether a requirement offers a solvable, and its condition holds, if it has one.
-fn offers<D: DependencyProvider>(
+pub(crate) fn offers<D: DependencyProvider>(
     selection: &Selection<D>,
     conditional: ConditionalRequirement,
     solvable: D::SolvableId,
 ) -> Result<bool, StoreError>
     ensures { IfOk result (λ yes. Decides yes (Offers
-        (⟦<D as ProviderFunctions>⟧.functions selection.now.provider.now) (D.SolvableId.Set.has selection.now.picked)
+        (⟦<D as ProviderFunctions>⟧.functions selection.now.provider.now)
+        (is_kept D.SolvableId.eq (D.SolvableId.Set.has selection.now.picked) selection.now.left_out)
         solvable conditional)) }
 {
     if !is_offered(selection, conditional.requirement, solvable)? {
@@ -72,7 +76,8 @@ fn holds_if_any<D: DependencyProvider>(
     condition: Option<ConditionId>,
 ) -> Result<bool, StoreError>
     ensures { IfOk result (λ yes. Decides yes (HoldsIfAny
-        (⟦<D as ProviderFunctions>⟧.functions selection.now.provider.now) (D.SolvableId.Set.has selection.now.picked)
+        (⟦<D as ProviderFunctions>⟧.functions selection.now.provider.now)
+        (is_kept D.SolvableId.eq (D.SolvableId.Set.has selection.now.picked) selection.now.left_out)
         condition)) }
 {
     match condition {
@@ -87,7 +92,8 @@ fn is_known_to_hold<D: DependencyProvider>(
     condition: ConditionId,
 ) -> Result<bool, StoreError>
     ensures { IfOk result (λ yes. Decides yes (HoldsIfAny
-        (⟦<D as ProviderFunctions>⟧.functions selection.now.provider.now) (D.SolvableId.Set.has selection.now.picked)
+        (⟦<D as ProviderFunctions>⟧.functions selection.now.provider.now)
+        (is_kept D.SolvableId.eq (D.SolvableId.Set.has selection.now.picked) selection.now.left_out)
         (Some condition))) }
 {
     if !selection.provider.knows_condition(condition) {

@@ -1,11 +1,12 @@
 //! How good what is picked is, by wishes.
-ghost use Rattle.std.specs.Prelude.{◌≡◌, map, not, if◌then◌else◌, IfOk};
-ghost use Rattle.solutions.specs.Wishes.{alternatives_of, before_true, rank};
+ghost use Rattle.std.specs.Prelude.{◌≡◌, map, IfOk};
+ghost use Rattle.solutions.specs.Selections.{is_kept, is_so_by, rank_by};
+ghost use Rattle.solutions.specs.Wishes.{alternatives_of, rank};
 
 use crate::selection::Selection;
 use crate::solution::select;
 use crate::wish::{Alternative, Wish};
-use resolvo_ids::{IdSet, StoreError};
+use resolvo_ids::StoreError;
 use resolvo_pool::{DependencyProvider, ProviderFunctions};
 
 /// For each wish the place of its first alternative that is so of what is picked; if none is, how many it has. Each
@@ -20,9 +21,21 @@ pub fn ranks<D: DependencyProvider>(
         map (rank (⟦<D as ProviderFunctions>⟧.functions provider.now) picked.now) (alternatives_of wishes.now)) }
 {
     let selection = select(alloc, provider, picked)?;
-    let mut ranks = Vec::new(alloc);
+    ranks_by(&selection, wishes)
+}
+
+/// The wishes' ranks by a selection.
+pub(crate) fn ranks_by<D: DependencyProvider>(
+    selection: &Selection<D>,
+    wishes: &[Wish<D::SolvableId, D::Alloc>],
+) -> Result<Vec<usize, D::Alloc>, StoreError>
+    ensures { IfOk result (λ ranks. ranks.items ≡ map (rank_by
+        (is_kept D.SolvableId.eq (D.SolvableId.Set.has selection.now.picked) selection.now.left_out))
+        (alternatives_of wishes.now)) }
+{
+    let mut ranks = Vec::new(selection.alloc);
     for wish in wishes {
-        ranks.push(rank(&selection, &wish.alternatives))?;
+        ranks.push(rank(selection, &wish.alternatives))?;
     }
     Ok(ranks)
 }
@@ -32,8 +45,9 @@ fn rank<D: DependencyProvider>(
     selection: &Selection<D>,
     alternatives: &[Alternative<D::SolvableId>],
 ) -> usize
-    ensures { result ≡ before_true (map (λ a. if a.is_picked then D.SolvableId.Set.has selection.now.picked a.solvable
-        else not (D.SolvableId.Set.has selection.now.picked a.solvable)) alternatives.now) }
+    ensures { result ≡ rank_by
+        (is_kept D.SolvableId.eq (D.SolvableId.Set.has selection.now.picked) selection.now.left_out)
+        alternatives.now }
 {
     for (place, alternative) in alternatives.iter().enumerate() {
         if is_so(selection, alternative) {
@@ -48,9 +62,9 @@ fn is_so<D: DependencyProvider>(
     selection: &Selection<D>,
     alternative: &Alternative<D::SolvableId>,
 ) -> bool
-    ensures { result ≡ (if alternative.now.is_picked
-        then D.SolvableId.Set.has selection.now.picked alternative.now.solvable
-        else not (D.SolvableId.Set.has selection.now.picked alternative.now.solvable)) }
+    ensures { result ≡ is_so_by
+        (is_kept D.SolvableId.eq (D.SolvableId.Set.has selection.now.picked) selection.now.left_out)
+        alternative.now }
 {
-    selection.picked.contains(alternative.solvable) == alternative.is_picked
+    selection.picks(alternative.solvable) == alternative.is_picked
 }

@@ -1,42 +1,42 @@
-//! Whether there is no solution.
+//! Whether reasons are enough.
 ghost use Rattle.std.specs.Prelude.{◌≡◌, Bool, true, false, not, [], IfOk, OnOk, map};
-ghost use Rattle.solutions.specs.Clauses.{AreSatisfied, AreTrue, IsOneAName, Replayed};
-ghost use Rattle.solutions.specs.Solutions.{IsUnsolvable};
+ghost use Rattle.solutions.specs.Clauses.{AreSatisfied, AreTrue, Replayed};
+ghost use Rattle.solutions.specs.Reasons.{AreEnough};
 ghost use Rattle.solutions.specs.declared.literal.Fact.{Fact};
 
 use crate::clauses::Theory;
-use crate::encoding::encoded;
-use crate::evidence::Evidence;
+use crate::encoded::encoded;
+use crate::encoding::Encoder;
 use crate::literal::Literal;
 use crate::package_literal::PackageLiteral;
+use crate::reason::Reason;
 use crate::trail::Trail;
 use resolvo_ids::{SolverId, StoreError};
-use resolvo_pool::{ConditionalRequirement, DependencyProvider, Interner, ProviderFunctions};
+use resolvo_pool::{DependencyProvider, Interner, ProviderFunctions};
 use std::alloc::Allocator;
 
-/// Whether the evidence certifies that the request has no solution. A learnt clause counts if it follows by unit
-/// propagation from the request, from what the evidence's solvables say, and from the clauses before it. One that
-/// doesn't is passed over. The provider is queried after each whether to stop.
+/// Whether the learnt clauses certify that no choice of solvables meets all of the reasons. A learnt clause counts if
+/// it follows by unit propagation from the reasons and from the clauses before it. One that doesn't is passed over. The
+/// provider is queried after each whether to stop. If the answer is no, there may be such a choice or none.
 ///
-/// What a package excludes, or what isn't the one that it is locked to, is no candidate any more: such a solvable says
-/// that it isn't picked. Each other one says what it needs. What a solvable says counts only if it is among the
-/// evidence's solvables. If the answer is no, there may be a solution or none.
+/// Refused `UnknownId` if a reason names what the provider doesn't know.
 ///
-/// Costs time and memory in the request with its candidates, the dependencies of the evidence's solvables and the
-/// candidates of each one's package, the lists of conditions and the pairs that constraints forbid; and for each learnt
-/// clause in what its propagation visits: a clause is visited when one of two of its literals becomes false.
-pub fn refutes<D: DependencyProvider>(
+/// Costs time and memory in the reasons with their candidates, the lists of conditions and the pairs that constraints
+/// forbid; and for each learnt clause in what its propagation visits: a clause is visited when one of two of its
+/// literals becomes false.
+pub fn are_enough<D: DependencyProvider>(
     alloc: D::Alloc,
     provider: &D,
-    requested: &[ConditionalRequirement],
-    evidence: &Evidence<D::SolvableId, D::Alloc>,
+    reasons: &[Reason<D::NameId, D::SolvableId>],
+    learnt: &[Vec<PackageLiteral<D::SolvableId>, D::Alloc>],
 ) -> Result<bool, StoreError>
     ensures { IfOk result (λ yes. yes ≡ true →
-        IsUnsolvable (⟦<D as ProviderFunctions>⟧.functions provider.now) requested.now) }
+        AreEnough (⟦<D as ProviderFunctions>⟧.functions provider.now) reasons.now) }
 {
-    let theory = encoded(alloc, provider, requested, evidence.solvables)?;
+    let encoder = Encoder { alloc, provider };
+    let theory = encoded(&encoder, reasons)?;
     let mut replay = Replay::new(alloc, theory)?;
-    replay.all(provider, evidence.learnt)
+    replay.all(provider, learnt)
 }
 
 /// What was certified so far.
@@ -105,7 +105,7 @@ impl<N: SolverId<A>, S: SolverId<A>, A: Allocator + Copy> Replay<N, S, A> {
 
     /// Whether it follows that not all of the literals are true.
     pub(crate) fn are_refuted(&mut self, literals: &[Literal<N, S>]) -> Result<bool, StoreError>
-        ensures refuted { IfOk result (λ yes. yes ≡ true → (holds : Fact N S → Bool) → IsOneAName holds →
+        ensures refuted { IfOk result (λ yes. yes ≡ true → (holds : Fact N S → Bool) →
             AreSatisfied holds self.new.theory.clauses.items → AreTrue holds self.new.trail.literals.items →
             AreTrue holds literals.now → ⊥) }
         ensures replayed { OnOk result (Replayed self.old.theory.clauses.items self.old.trail.literals.items
@@ -136,7 +136,7 @@ impl<N: SolverId<A>, S: SolverId<A>, A: Allocator + Copy> Replay<N, S, A> {
 
     /// Adds that not all of the literals are true, and propagates. Answers whether it contradicts what is known.
     fn learn(&mut self, literals: &[Literal<N, S>]) -> Result<bool, StoreError>
-        requires { (holds : Fact N S → Bool) → IsOneAName holds → AreSatisfied holds self.old.theory.clauses.items →
+        requires { (holds : Fact N S → Bool) → AreSatisfied holds self.old.theory.clauses.items →
             AreTrue holds self.old.trail.literals.items → AreTrue holds literals.now → ⊥ }
         ensures { IfOk result (Replayed self.old.theory.clauses.items self.old.trail.literals.items
             self.new.theory.clauses.items self.new.trail.literals.items) }
@@ -148,7 +148,7 @@ impl<N: SolverId<A>, S: SolverId<A>, A: Allocator + Copy> Replay<N, S, A> {
 
     /// Adds that not all of the literals are true, which is so.
     fn add_opposites(&mut self, literals: &[Literal<N, S>]) -> Result<(), StoreError>
-        requires { (holds : Fact N S → Bool) → IsOneAName holds → AreSatisfied holds self.old.theory.clauses.items →
+        requires { (holds : Fact N S → Bool) → AreSatisfied holds self.old.theory.clauses.items →
             AreTrue holds self.old.trail.literals.items → AreTrue holds literals.now → ⊥ }
         ensures { OnOk result (Replayed self.old.theory.clauses.items self.old.trail.literals.items
             self.new.theory.clauses.items self.new.trail.literals.items false) }

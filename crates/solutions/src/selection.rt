@@ -4,6 +4,7 @@ ghost use Rattle.std.specs.Bool.{Decides};
 ghost use Rattle.std.specs.List.{list_any, list_all};
 ghost use Rattle.resolvo_ids.specs.Types.StoreError.TheVariants.{OutOfMemory};
 ghost use Rattle.resolvo_pool.specs.Conditions.{form_holds};
+ghost use Rattle.solutions.specs.Selections.{is_kept};
 
 use crate::queries::{candidates, knows};
 use resolvo_ids::{ConditionId, IdSet, SolverId, StoreError, VersionSetId};
@@ -11,14 +12,14 @@ use resolvo_pool::{
     ConditionalRequirement, DependencyProvider, Interner, ProviderFunctions, Requirement,
     convert_conditions_to_dnf,
 };
-use std::alloc::Allocator;
 
-/// Some of a provider's solvables: those that are picked.
+/// Some of a provider's solvables: those that are picked, but for one, if one is left out.
 #[derive(Drop)]
 pub(crate) struct Selection<'p, D: DependencyProvider> {
     pub(crate) alloc: D::Alloc,
     pub(crate) provider: &'p D,
     pub(crate) picked: <D::SolvableId as SolverId<D::Alloc>>::Set,
+    pub(crate) left_out: Option<D::SolvableId>,
 }
 
 impl<'p, D: DependencyProvider> Selection<'p, D> {
@@ -30,7 +31,7 @@ impl<'p, D: DependencyProvider> Selection<'p, D> {
     pub(crate) fn satisfies(&self, conditional: ConditionalRequirement) -> Result<bool, StoreError>
         ensures ok { IfOk result (λ yes. Decides yes
             (IsSatisfied (⟦<D as ProviderFunctions>⟧.functions self.now.provider.now)
-            (D.SolvableId.Set.has self.now.picked) conditional)) }
+            (is_kept D.SolvableId.eq (D.SolvableId.Set.has self.now.picked) self.now.left_out) conditional)) }
         ensures memory { IfErr result (λ e. e ≡ OutOfMemory) }
     {
         match conditional.condition {
@@ -47,7 +48,7 @@ impl<'p, D: DependencyProvider> Selection<'p, D> {
     ) -> Result<bool, StoreError>
         ensures ok { IfOk result (λ yes. Decides yes
             (IsSatisfiedUnder (⟦<D as ProviderFunctions>⟧.functions self.now.provider.now)
-            (D.SolvableId.Set.has self.now.picked)
+            (is_kept D.SolvableId.eq (D.SolvableId.Set.has self.now.picked) self.now.left_out)
             (Some condition) requirement)) }
         ensures memory { IfErr result (λ e. e ≡ OutOfMemory) }
     {
@@ -64,7 +65,7 @@ impl<'p, D: DependencyProvider> Selection<'p, D> {
     fn satisfies_requirement(&self, requirement: Requirement) -> Result<bool, StoreError>
         ensures ok { IfOk result (λ yes. yes ≡
             is_satisfied (⟦<D as ProviderFunctions>⟧.functions self.now.provider.now)
-            (D.SolvableId.Set.has self.now.picked) requirement) }
+            (is_kept D.SolvableId.eq (D.SolvableId.Set.has self.now.picked) self.now.left_out) requirement) }
         ensures memory { IfErr result (λ e. e ≡ OutOfMemory) }
     {
         if !knows(self.provider, requirement) {
@@ -79,7 +80,7 @@ impl<'p, D: DependencyProvider> Selection<'p, D> {
         requires { (D.universe self.now.provider.now).knows_condition condition ≡ true }
         ensures ok { IfOk result (λ yes. Decides yes
             (ConditionHolds (⟦<D as ProviderFunctions>⟧.functions self.now.provider.now)
-            (D.SolvableId.Set.has self.now.picked) condition)) }
+            (is_kept D.SolvableId.eq (D.SolvableId.Set.has self.now.picked) self.now.left_out) condition)) }
         ensures memory { IfErr result (λ e. e ≡ OutOfMemory) }
     {
         let lists = convert_conditions_to_dnf(self.alloc, condition, self.provider)?;
@@ -90,7 +91,7 @@ impl<'p, D: DependencyProvider> Selection<'p, D> {
     fn has_all_of_some(&self, lists: &[Vec<VersionSetId, D::Alloc>]) -> Result<bool, StoreError>
         ensures ok { IfOk result (λ yes. yes ≡ form_holds
             (has_picked (⟦<D as ProviderFunctions>⟧.functions self.now.provider.now)
-            (D.SolvableId.Set.has self.now.picked))
+            (is_kept D.SolvableId.eq (D.SolvableId.Set.has self.now.picked) self.now.left_out))
             (map (λ l. l.items) lists.now)) }
         ensures memory { IfErr result (λ e. e ≡ OutOfMemory) }
     {
@@ -106,7 +107,7 @@ impl<'p, D: DependencyProvider> Selection<'p, D> {
     fn has_all(&self, sets: &[VersionSetId]) -> Result<bool, StoreError>
         ensures ok { IfOk result (λ yes. yes ≡ list_all
             (has_picked (⟦<D as ProviderFunctions>⟧.functions self.now.provider.now)
-            (D.SolvableId.Set.has self.now.picked)) sets.now) }
+            (is_kept D.SolvableId.eq (D.SolvableId.Set.has self.now.picked) self.now.left_out)) sets.now) }
         ensures memory { IfErr result (λ e. e ≡ OutOfMemory) }
     {
         for set in sets {
@@ -121,7 +122,7 @@ impl<'p, D: DependencyProvider> Selection<'p, D> {
     fn has_some(&self, sets: &[VersionSetId]) -> Result<bool, StoreError>
         ensures ok { IfOk result (λ yes. yes ≡ list_any
             (has_picked (⟦<D as ProviderFunctions>⟧.functions self.now.provider.now)
-            (D.SolvableId.Set.has self.now.picked)) sets.now) }
+            (is_kept D.SolvableId.eq (D.SolvableId.Set.has self.now.picked) self.now.left_out)) sets.now) }
         ensures memory { IfErr result (λ e. e ≡ OutOfMemory) }
     {
         for set in sets {
@@ -136,34 +137,46 @@ impl<'p, D: DependencyProvider> Selection<'p, D> {
     fn has_picked(&self, set: VersionSetId) -> Result<bool, StoreError>
         ensures ok { IfOk result (λ yes. yes ≡
             has_picked (⟦<D as ProviderFunctions>⟧.functions self.now.provider.now)
-            (D.SolvableId.Set.has self.now.picked) set) }
+            (is_kept D.SolvableId.eq (D.SolvableId.Set.has self.now.picked) self.now.left_out) set) }
         ensures memory { IfErr result (λ e. e ≡ OutOfMemory) }
     {
         if !self.provider.knows_version_set(set) {
             return Ok(false);
         }
         let candidates = candidates(self.alloc, self.provider, set, false)?;
-        Ok(picks_one::<D::SolvableId, D::Alloc>(&self.picked, &candidates))
+        Ok(self.picks_one(&candidates))
     }
 
     /// Whether no candidate is picked that the version set doesn't hold.
     pub(crate) fn respects(&self, set: VersionSetId) -> Result<bool, StoreError>
         ensures ok { IfOk result (λ yes. yes ≡
             is_respected (⟦<D as ProviderFunctions>⟧.functions self.now.provider.now)
-            (D.SolvableId.Set.has self.now.picked) set) }
+            (is_kept D.SolvableId.eq (D.SolvableId.Set.has self.now.picked) self.now.left_out) set) }
         ensures memory { IfErr result (λ e. e ≡ OutOfMemory) }
     {
         if !self.provider.knows_version_set(set) {
             return Ok(false);
         }
         let others = candidates(self.alloc, self.provider, set, true)?;
-        Ok(!picks_one::<D::SolvableId, D::Alloc>(&self.picked, &others))
+        Ok(!self.picks_one(&others))
     }
-}
 
-/// Whether one of the solvables is picked.
-fn picks_one<S: SolverId<A>, A: Allocator + Copy>(picked: &S::Set, solvables: &[S]) -> bool
-    ensures { result ≡ list_any (S.Set.has picked.now) solvables.now }
-{
-    solvables.iter().any(|solvable| picked.contains(*solvable))
+    /// Whether one of the solvables is picked.
+    fn picks_one(&self, solvables: &[D::SolvableId]) -> bool
+        ensures { result ≡ list_any
+            (is_kept D.SolvableId.eq (D.SolvableId.Set.has self.now.picked) self.now.left_out) solvables.now }
+    {
+        solvables.iter().any(|solvable| self.picks(*solvable))
+    }
+
+    /// Whether a solvable is picked, and isn't left out.
+    pub(crate) fn picks(&self, solvable: D::SolvableId) -> bool
+        ensures { result ≡
+            is_kept D.SolvableId.eq (D.SolvableId.Set.has self.now.picked) self.now.left_out solvable }
+    {
+        match self.left_out {
+            None => self.picked.contains(solvable),
+            Some(left_out) => solvable != left_out && self.picked.contains(solvable),
+        }
+    }
 }

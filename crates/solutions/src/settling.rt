@@ -1,6 +1,6 @@
 //! That the first true literals of lists come no earlier than at their ranks.
 ghost use Rattle.std.specs.Prelude.{◌≡◌, Bool, true, false, IfOk, OnOk};
-ghost use Rattle.solutions.specs.Clauses.{AreSatisfied, AreTrue, IsOneAName, Replayed, is_true};
+ghost use Rattle.solutions.specs.Clauses.{AreSatisfied, AreTrue, Replayed, is_true};
 ghost use Rattle.solutions.specs.Settled.{IsAtLeast, IsUnbeaten, Settled, StaysTrue, first_true, first_trues};
 ghost use Rattle.solutions.specs.declared.literal.Fact.{Fact};
 
@@ -17,7 +17,7 @@ impl<N: SolverId<A>, S: SolverId<A>, A: Allocator + Copy> Replay<N, S, A> {
         lists: &[Vec<Literal<N, S>, A>],
         ranks: &[usize],
     ) -> Result<usize, StoreError>
-        ensures { IfOk result (λ count. (holds : Fact N S → Bool) → IsOneAName holds →
+        ensures { IfOk result (λ count. (holds : Fact N S → Bool) →
             AreSatisfied holds self.old.theory.clauses.items → AreTrue holds self.old.trail.literals.items →
             IsUnbeaten count ranks.now (first_trues holds lists.now)) }
     {

@@ -1,7 +1,8 @@
 //! Whether what is picked is a solution.
-ghost use Rattle.std.specs.Prelude.{◌≡◌, true, All, map, IfOk};
+ghost use Rattle.std.specs.Prelude.{◌≡◌, true, All, None, map, IfOk};
 ghost use Rattle.std.specs.Bool.{Decides};
 ghost use Rattle.std.specs.List.{list_all, list_any, IsDistinct};
+ghost use Rattle.solutions.specs.Selections.{is_kept};
 ghost use Rattle.solutions.specs.Solutions.{AreNeedsSatisfied, IsSatisfied, IsSolution, is_respected};
 ghost use Rattle.solutions.specs.Truth.{IsFit};
 
@@ -57,14 +58,16 @@ fn are_of_different_packages<D: DependencyProvider>(
     Ok(true)
 }
 
-/// The selection of these solvables.
+/// The selection of these solvables. None of them is left out.
 pub(crate) fn select<'p, D: DependencyProvider>(
     alloc: D::Alloc,
     provider: &'p D,
     solvables: &[D::SolvableId],
 ) -> Result<Selection<'p, D>, StoreError>
     ensures picked { IfOk result (λ selection. (s : D.SolvableId) →
-        D.SolvableId.Set.has selection.picked s ≡ list_any (D.SolvableId.eq s) solvables.now) }
+        is_kept D.SolvableId.eq (D.SolvableId.Set.has selection.picked) selection.left_out s ≡
+        list_any (D.SolvableId.eq s) solvables.now) }
+    ensures left_out { IfOk result (λ selection. selection.left_out ≡ None) }
     ensures provider { IfOk result (λ selection. selection.provider.now ≡ provider.now) }
 {
     let mut picked = <<D::SolvableId as SolverId<D::Alloc>>::Set as IdSet<
@@ -78,6 +81,7 @@ pub(crate) fn select<'p, D: DependencyProvider>(
         alloc,
         provider,
         picked,
+        left_out: None,
     })
 }
 
@@ -88,7 +92,8 @@ pub(crate) fn are_satisfied<D: DependencyProvider>(
 ) -> Result<bool, StoreError>
     ensures { IfOk result (λ yes. Decides yes (All (IsSatisfied
         (⟦<D as ProviderFunctions>⟧.functions selection.now.provider.now)
-        (D.SolvableId.Set.has selection.now.picked)) requirements.now)) }
+        (is_kept D.SolvableId.eq (D.SolvableId.Set.has selection.now.picked) selection.now.left_out))
+        requirements.now)) }
 {
     for requirement in requirements {
         if !selection.satisfies(*requirement)? {
@@ -105,7 +110,7 @@ fn are_respected<D: DependencyProvider>(
 ) -> Result<bool, StoreError>
     ensures { IfOk result (λ yes. yes ≡ list_all (is_respected
         (⟦<D as ProviderFunctions>⟧.functions selection.now.provider.now)
-        (D.SolvableId.Set.has selection.now.picked)) sets.now) }
+        (is_kept D.SolvableId.eq (D.SolvableId.Set.has selection.now.picked) selection.now.left_out)) sets.now) }
 {
     for set in sets {
         if !selection.respects(*set)? {
@@ -123,7 +128,7 @@ fn are_all_fit<D: DependencyProvider>(
     requires { All (λ s. (D.universe selection.now.provider.now).knows_solvable s ≡ true) solvables.now }
     ensures { IfOk result (λ yes. Decides yes (All (IsFit
         (⟦<D as ProviderFunctions>⟧.functions selection.now.provider.now)
-        (D.SolvableId.Set.has selection.now.picked)) solvables.now)) }
+        (is_kept D.SolvableId.eq (D.SolvableId.Set.has selection.now.picked) selection.now.left_out)) solvables.now)) }
 {
     for solvable in solvables {
         if !is_fit(selection, *solvable)? {
@@ -141,7 +146,7 @@ fn is_fit<D: DependencyProvider>(
     requires { (D.universe selection.now.provider.now).knows_solvable solvable ≡ true }
     ensures { IfOk result (λ yes. Decides yes (IsFit
         (⟦<D as ProviderFunctions>⟧.functions selection.now.provider.now)
-        (D.SolvableId.Set.has selection.now.picked) solvable)) }
+        (is_kept D.SolvableId.eq (D.SolvableId.Set.has selection.now.picked) selection.now.left_out) solvable)) }
 {
     if !is_allowed(selection.alloc, selection.provider, solvable)? {
         return Ok(false);
@@ -156,7 +161,8 @@ pub(crate) fn are_needs_satisfied<D: DependencyProvider>(
 ) -> Result<bool, StoreError>
     requires { (D.universe selection.now.provider.now).knows_solvable solvable ≡ true }
     ensures { IfOk result (λ yes. Decides yes (AreNeedsSatisfied
-        (⟦<D as ProviderFunctions>⟧.functions selection.now.provider.now) (D.SolvableId.Set.has selection.now.picked)
+        (⟦<D as ProviderFunctions>⟧.functions selection.now.provider.now)
+        (is_kept D.SolvableId.eq (D.SolvableId.Set.has selection.now.picked) selection.now.left_out)
         ((D.answers selection.now.provider.now).needs solvable))) }
 {
     match selection

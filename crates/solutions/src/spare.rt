@@ -1,21 +1,23 @@
 //! Whether a picked solvable can be left out.
-ghost use Rattle.std.specs.Prelude.{◌≡◌, true, not, filter, None, IfOk, IfSome};
+ghost use Rattle.std.specs.Prelude.{◌≡◌, true, not, filter, map, None, IfOk, IfSome};
 ghost use Rattle.std.specs.Bool.{Decides};
-ghost use Rattle.std.specs.List.{All};
-ghost use Rattle.solutions.specs.Solutions.{IsSolution};
-ghost use Rattle.solutions.specs.Wishes.{AreRanksSame, IsAsGood, IsSpare, IsSpareAt, NoneSpare, alternatives_of};
+ghost use Rattle.std.specs.List.{list_any};
+ghost use Rattle.solutions.specs.Selections.{IsNoSolution, is_kept};
+ghost use Rattle.solutions.specs.Wishes.{IsSpare, IsSpareAt, NoneSpare, alternatives_of, rank};
 
 use crate::needed::Cause;
-use crate::ranking::ranks;
-use crate::solution::{are_needs_satisfied, are_satisfied, is_solution, select};
+use crate::ranking::ranks_by;
+use crate::selection::Selection;
+use crate::solution::{are_needs_satisfied, is_solution, select};
 use crate::wish::{Request, Wish};
-use resolvo_ids::{IdSet, SolverId, StoreError};
+use resolvo_ids::{SolverId, StoreError};
 use resolvo_pool::{ConditionalRequirement, DependencyProvider, Interner, ProviderFunctions};
 use std::alloc::Allocator;
 
 /// The place of a picked solvable that can be left out: what is left is a solution, and as good by all wishes. Each
-/// cause is tried first: where what is requested, or what the solvable at the cause's place needs, isn't satisfied
-/// without the solvable, it can't be left out. Otherwise what is left is checked whole.
+/// cause is tried first: where the requirement at its place, or what the solvable at its place needs, isn't satisfied
+/// without the solvable, it can't be left out. That costs what these requirements cost. Otherwise what is left is
+/// checked whole.
 pub fn find_spare<D: DependencyProvider>(
     alloc: D::Alloc,
     provider: &D,
@@ -28,41 +30,62 @@ pub fn find_spare<D: DependencyProvider>(
     ensures spare { IfOk result (λ found. IfSome found (IsSpareAt (⟦<D as ProviderFunctions>⟧.functions provider.now)
         request.now.requirements.now (alternatives_of request.now.wishes.now) picked.now)) }
 {
+    let mut selection = select(alloc, provider, picked)?;
+    let ranks = ranks_by(&selection, request.wishes)?;
     let choice = Choice {
-        alloc,
-        provider,
         request,
         picked,
+        ranks,
     };
     for place in 0..picked.len() {
-        if is_spare(&choice, picked[place], causes.get(place).copied())? {
+        let solvable = picked[place];
+        selection.left_out = Some(solvable);
+        if is_spare(&selection, &choice, solvable, causes.get(place).copied())? {
             return Ok(Some(place));
         }
     }
     Ok(None)
 }
 
-/// What a request picks.
+/// What a request picks, and the wishes' ranks.
 #[derive(Drop)]
 struct Choice<'c, D: DependencyProvider> {
-    alloc: D::Alloc,
-    provider: &'c D,
     request: &'c Request<'c, D::SolvableId, D::Alloc>,
     picked: &'c [D::SolvableId],
+    ranks: Vec<usize, D::Alloc>,
 }
 
-/// Whether a picked solvable can be left out.
+/// Whether a picked solvable can be left out, where the selection has the others.
 fn is_spare<D: DependencyProvider>(
+    selection: &Selection<D>,
     choice: &Choice<D>,
     solvable: D::SolvableId,
     cause: Option<Cause>,
 ) -> Result<bool, StoreError>
+    requires rest { (s : D.SolvableId) →
+        is_kept D.SolvableId.eq (D.SolvableId.Set.has selection.now.picked) selection.now.left_out s ≡
+        list_any (D.SolvableId.eq s) (filter (λ t. not (D.SolvableId.eq t solvable)) choice.now.picked.now) }
+    requires ranks { choice.now.ranks.items ≡
+        map (rank (⟦<D as ProviderFunctions>⟧.functions selection.now.provider.now) choice.now.picked.now)
+        (alternatives_of choice.now.request.now.wishes.now) }
     ensures { IfOk result (λ yes. Decides yes (IsSpare
-        (⟦<D as ProviderFunctions>⟧.functions choice.now.provider.now) choice.now.request.now.requirements.now
+        (⟦<D as ProviderFunctions>⟧.functions selection.now.provider.now) choice.now.request.now.requirements.now
         (alternatives_of choice.now.request.now.wishes.now) choice.now.picked.now solvable)) }
 {
-    let rest = without::<D::SolvableId, D::Alloc>(choice.alloc, choice.picked, solvable)?;
-    is_as_good(choice, &rest, cause)
+    if is_cause_unsatisfied(selection, choice, cause)? {
+        return Ok(false);
+    }
+    let ranks = ranks_by(selection, choice.request.wishes)?;
+    if choice.ranks != ranks {
+        return Ok(false);
+    }
+    let rest = without::<D::SolvableId, D::Alloc>(selection.alloc, choice.picked, solvable)?;
+    is_solution(
+        selection.alloc,
+        selection.provider,
+        choice.request.requirements,
+        &rest,
+    )
 }
 
 /// The solvables, but for one.
@@ -82,95 +105,59 @@ fn without<S: SolverId<A>, A: Allocator + Copy>(
     Ok(rest)
 }
 
-/// Whether what is left of a choice is a solution, and as good by all wishes.
-fn is_as_good<D: DependencyProvider>(
-    choice: &Choice<D>,
-    rest: &[D::SolvableId],
-    cause: Option<Cause>,
-) -> Result<bool, StoreError>
-    ensures { IfOk result (λ yes. Decides yes (IsAsGood
-        (⟦<D as ProviderFunctions>⟧.functions choice.now.provider.now) choice.now.request.now.requirements.now
-        (alternatives_of choice.now.request.now.wishes.now) choice.now.picked.now rest.now)) }
-{
-    if is_cause_unsatisfied(choice, rest, cause)? {
-        return Ok(false);
-    }
-    if !are_ranks_same(choice, rest)? {
-        return Ok(false);
-    }
-    is_solution(
-        choice.alloc,
-        choice.provider,
-        choice.request.requirements,
-        rest,
-    )
-}
-
-/// Whether what is requested, or what the solvable at a cause's place needs, isn't satisfied by what is left.
+/// Whether the requirement of a cause, or what the solvable at its place needs, isn't satisfied.
 fn is_cause_unsatisfied<D: DependencyProvider>(
+    selection: &Selection<D>,
     choice: &Choice<D>,
-    rest: &[D::SolvableId],
     cause: Option<Cause>,
 ) -> Result<bool, StoreError>
-    ensures { IfOk result (λ yes. yes ≡ true → IsSolution
-        (⟦<D as ProviderFunctions>⟧.functions choice.now.provider.now) choice.now.request.now.requirements.now
-        rest.now → ⊥) }
+    ensures { IfOk result (λ yes. yes ≡ true → IsNoSolution
+        (⟦<D as ProviderFunctions>⟧.functions selection.now.provider.now) choice.now.request.now.requirements.now
+        (is_kept D.SolvableId.eq (D.SolvableId.Set.has selection.now.picked) selection.now.left_out)) }
 {
     match cause {
-        None => Ok(false),
-        Some(Cause::Requested) => is_request_unsatisfied(choice, rest),
-        Some(Cause::Wished) => Ok(false),
-        Some(Cause::Required(place)) => is_need_unsatisfied(choice, rest, place),
+        Some(Cause::Requested(place)) => {
+            is_requirement_unsatisfied(selection, choice.request.requirements, place)
+        }
+        Some(Cause::Required(place)) => is_need_unsatisfied(selection, choice, place),
+        _ => Ok(false),
     }
 }
 
-/// Whether what is requested isn't satisfied by what is left.
-fn is_request_unsatisfied<D: DependencyProvider>(
-    choice: &Choice<D>,
-    rest: &[D::SolvableId],
-) -> Result<bool, StoreError>
-    ensures { IfOk result (λ yes. yes ≡ true → IsSolution
-        (⟦<D as ProviderFunctions>⟧.functions choice.now.provider.now) choice.now.request.now.requirements.now
-        rest.now → ⊥) }
-{
-    let selection = select(choice.alloc, choice.provider, rest)?;
-    Ok(!are_satisfied(&selection, choice.request.requirements)?)
-}
-
-/// Whether the solvable at a place is left, and what it needs isn't satisfied.
-fn is_need_unsatisfied<D: DependencyProvider>(
-    choice: &Choice<D>,
-    rest: &[D::SolvableId],
+/// Whether the requirement at a place isn't satisfied.
+fn is_requirement_unsatisfied<D: DependencyProvider>(
+    selection: &Selection<D>,
+    requirements: &[ConditionalRequirement],
     place: usize,
 ) -> Result<bool, StoreError>
-    ensures { IfOk result (λ yes. yes ≡ true → IsSolution
-        (⟦<D as ProviderFunctions>⟧.functions choice.now.provider.now) choice.now.request.now.requirements.now
-        rest.now → ⊥) }
+    ensures { IfOk result (λ yes. yes ≡ true → IsNoSolution
+        (⟦<D as ProviderFunctions>⟧.functions selection.now.provider.now) requirements.now
+        (is_kept D.SolvableId.eq (D.SolvableId.Set.has selection.now.picked) selection.now.left_out)) }
+{
+    let Some(requirement) = requirements.get(place) else {
+        return Ok(false);
+    };
+    Ok(!selection.satisfies(*requirement)?)
+}
+
+/// Whether the solvable at a place isn't left out, and what it needs isn't satisfied.
+fn is_need_unsatisfied<D: DependencyProvider>(
+    selection: &Selection<D>,
+    choice: &Choice<D>,
+    place: usize,
+) -> Result<bool, StoreError>
+    ensures { IfOk result (λ yes. yes ≡ true → IsNoSolution
+        (⟦<D as ProviderFunctions>⟧.functions selection.now.provider.now) choice.now.request.now.requirements.now
+        (is_kept D.SolvableId.eq (D.SolvableId.Set.has selection.now.picked) selection.now.left_out)) }
 {
     let Some(parent) = choice.picked.get(place) else {
         return Ok(false);
     };
-    let selection = select(choice.alloc, choice.provider, rest)?;
-    if !selection.picked.contains(*parent) {
+    if !selection.picks(*parent) {
         return Ok(false);
     }
     if !selection.provider.knows_solvable(*parent) {
         return Ok(false);
     }
-    Ok(!are_needs_satisfied(&selection, *parent)?)
-}
-
-/// Whether what is left of a choice has the same ranks by all wishes.
-fn are_ranks_same<D: DependencyProvider>(
-    choice: &Choice<D>,
-    rest: &[D::SolvableId],
-) -> Result<bool, StoreError>
-    ensures { IfOk result (λ yes. Decides yes (AreRanksSame
-        (⟦<D as ProviderFunctions>⟧.functions choice.now.provider.now) choice.now.picked.now rest.now
-        (alternatives_of choice.now.request.now.wishes.now))) }
-{
-    let wishes = choice.request.wishes;
-    let of_all = ranks(choice.alloc, choice.provider, wishes, choice.picked)?;
-    let of_rest = ranks(choice.alloc, choice.provider, wishes, rest)?;
-    Ok(of_all == of_rest)
+    Ok(!are_needs_satisfied(selection, *parent)?)
 }

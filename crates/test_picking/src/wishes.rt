@@ -183,8 +183,8 @@ fn cause_text<A: Allocator + Copy>(
     cause: solutions::Cause,
 ) -> Result<String<A>, StoreError> {
     match cause {
-        solutions::Cause::Requested => Ok(String::from_str(alloc, " requested; ")?),
-        solutions::Cause::Wished => Ok(String::from_str(alloc, " wished; ")?),
+        solutions::Cause::Requested(_) => Ok(String::from_str(alloc, " requested; ")?),
+        solutions::Cause::Wished(_) => Ok(String::from_str(alloc, " wished; ")?),
         solutions::Cause::Required(place) => Ok(format!(in alloc; " by {place}; ")?),
     }
 }

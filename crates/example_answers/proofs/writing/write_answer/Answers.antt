@@ -1,7 +1,8 @@
 use Rattle.std.proofs.Common.{◌∙◌}
 use Rattle.resolvo_pool.specs.Functions.{Provider, gathered}
 use Rattle.example_answers.specs.Answers.{NotShown}
-use Rattle.example_answers.proofs.AnswerLemmas.{as_many_ranks, in_turn, picked_is, says_solution}
+use Rattle.example_answers.proofs.AnswerLemmas.{as_many_ranks, in_turn, picked_is, refuted_is}
+use Rattle.example_answers.proofs.AnswerLemmas.{says_no_solution, says_solution}
 use Rattle.example_answers.proofs.writing.write_answer.Given.{Over}
 use Rattle.example_answers.proofs.writing.write_answer.Goals as goal
 
@@ -20,6 +21,17 @@ returns-in_ok-write_best-in-Picked g c =
     (picked_is p requested _ _ c.in-Picked.is promised.solution promised.best promised.needed promised.none_spare)
     (c.len.ensures ∙ as_many_ranks p requested _ _ c.in-Picked.is promised.ranks) c.deref.ensures.value c.requires
     c.in_ok-push_str.ensures.bytes c.in_ok-write_picked-in-Picked.ensures c.in_ok-write_best-in-Picked.ensures
+
+-- src/writing.rt:14:1
+pub returns-in_ok-write_reasons-in-Unsolvable : goal.returns-in_ok-write_reasons-in-Unsolvable
+returns-in_ok-write_reasons-in-Unsolvable g c =
+    let p = provided g c.args.provider.now in
+    let requested = c.args.requested.now in
+    let promised = c.in_ok-choice.ensures in
+    says_no_solution p _ requested _ _ _ _ _ _
+    (refuted_is p requested _ _ c.in-Unsolvable.is promised.none promised.reasons_so promised.reasons_enough)
+    c.deref-in-Unsolvable.ensures.value c.requires c.in_ok-push_str.ensures.bytes
+    c.in_ok-push_str-in-Unsolvable.ensures.bytes c.in_ok-write_reasons-in-Unsolvable.ensures
 
 -- src/writing.rt:14:1
 pub returns-in_ok-write_reasons-in-Uncertified : goal.returns-in_ok-write_reasons-in-Uncertified

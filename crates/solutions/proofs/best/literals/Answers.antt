@@ -20,7 +20,7 @@ loop-alternative-preserved g c = λ other.
     let value = ap (λ k. k.value) c.new.ensures in
     let pushed : c.push.new.self.items ≡ c.loop-alternative.literals.items ++ l ∷ [] = search rules in
     literals_more p c.args.alternatives.now c.loop-alternative.alternative-index a c.loop-alternative.literals.items c.push.new.self.items l other
-    c.loop-alternative-test.true c.alternative-item.is pushed (literal_is_so p g.met.D.NameId.Eq.laws.refl l a fact value other)
+    c.loop-alternative-test.true c.alternative-item.is pushed (literal_is_so p l a fact value other)
     (c.loop-alternative.invariant other)
 
 pub returns : goal.returns

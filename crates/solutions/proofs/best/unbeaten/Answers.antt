@@ -27,7 +27,7 @@ returns g c =
     subst (λ first. Replayed first [] now known answer) (ap (λ theory. theory.clauses.items) c.in_ok-replay.ensures.theory)
     (subst (λ first. Replayed c.in_ok-replay.replay.theory.clauses.items first now known answer) c.in_ok-replay.ensures.trail c.in_ok-all.ensures) in
     answered c.settle_all.result
-    (λ count settled. unbeaten_solutions p g.met.D.NameId.Eq.laws.refl g.met.D.NameId.SameValue.same g.met.D.SolvableId.SameValue.same
+    (λ count settled. unbeaten_solutions p
     c.args.request.now.requirements.now wishes clauses now known answer count ranks c.deref.result.now c.in_ok-theory.ensures replayed settled
     (λ other. subst (λ lists. AreSameUpTo (length ranks) ranks (first_trues (truth p other) lists) (map (rank p other) wishes)) (sym c.deref.ensures.value)
     (c.in_ok-lists.ensures other)))

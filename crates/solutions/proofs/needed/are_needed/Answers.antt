@@ -5,6 +5,7 @@ use Rattle.std.proofs.lemmas.List.{take_all}
 use Rattle.std.proofs.lemmas.List.Elements.{All-nil}
 use Rattle.resolvo_pool.specs.Functions.{Provider, gathered}
 use Rattle.solutions.specs.Needed.{IsCausedBy, IsNeeded}
+use Rattle.solutions.specs.Selections.{is_kept}
 use Rattle.solutions.specs.Solutions.{is_among}
 use Rattle.solutions.specs.Wishes.{alternatives_of}
 use Rattle.solutions.proofs.DecisionLemmas.{next_holds}
@@ -31,7 +32,7 @@ loop-place-preserved g c =
     let x = c.index-picked-place.result in
     let cause = c.in-Some.cause.now in
     let selection = c.in_ok-selection.selection in
-    let has = g.D.SolvableId.Set.IdSet.has selection.picked in
+    let has = is_kept g.D.SolvableId.PartialEq.eq (g.D.SolvableId.Set.IdSet.has selection.picked) selection.left_out in
     let before = c.before-in-loop-place.result.now in
     let yes : c.in_ok-is_caused_by.field-0 ≡ true = search rules in
     let selected : IsCausedBy (provided g selection.provider.now) has requirements wishes before cause x = c.in_ok-is_caused_by.ensures yes in

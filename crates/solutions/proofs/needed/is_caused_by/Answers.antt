@@ -1,6 +1,7 @@
 use Rattle.std.proofs.Common.{◌≡◌, rules, subst, sym}
 use Rattle.resolvo_pool.specs.Functions.{Provider, gathered}
 use Rattle.solutions.specs.Needed.{IsCausedBy}
+use Rattle.solutions.specs.Selections.{is_kept}
 use Rattle.solutions.specs.Wishes.{alternatives_of}
 use Rattle.solutions.specs.declared.needed.Cause.TheVariants.{Requested, Required, Wished}
 use Rattle.solutions.proofs.DecisionLemmas.{answered}
@@ -15,27 +16,27 @@ provided g = gathered g.D.NameId.PartialEq.eq g.D.SolvableId.PartialEq.eq g.D.Na
 pub returns-in-Requested : goal.returns-in-Requested
 returns-in-Requested g c =
     let p = provided g c.args.selection.now.provider.now in
-    let has = g.D.SolvableId.Set.IdSet.has c.args.selection.now.picked in
+    let has = is_kept g.D.SolvableId.PartialEq.eq (g.D.SolvableId.Set.IdSet.has c.args.selection.now.picked) c.args.selection.now.left_out in
     let request = c.args.request.now in
-    let is : c.args.cause ≡ Requested = search rules in
-    answered c.is_offered_by.result
-    (λ b decides e. subst (λ cause. IsCausedBy p has request.requirements.now (alternatives_of request.wishes.now) c.args.before.now cause c.args.solvable)
-    (sym is) (decides.0 e))
-    c.is_offered_by.ensures
+    let is : c.args.cause ≡ Requested c.in-Requested.place = search rules in
+    answered c.is_requested_at.result
+    (λ b offered e. subst (λ cause. IsCausedBy p has request.requirements.now (alternatives_of request.wishes.now) c.args.before.now cause c.args.solvable)
+    (sym is) (offered e))
+    c.is_requested_at.ensures
 
 pub returns-in-Wished : goal.returns-in-Wished
 returns-in-Wished g c =
     let p = provided g c.args.selection.now.provider.now in
-    let has = g.D.SolvableId.Set.IdSet.has c.args.selection.now.picked in
+    let has = is_kept g.D.SolvableId.PartialEq.eq (g.D.SolvableId.Set.IdSet.has c.args.selection.now.picked) c.args.selection.now.left_out in
     let request = c.args.request.now in
-    let is : c.args.cause ≡ Wished = search rules in
+    let is : c.args.cause ≡ Wished c.in-Wished.place = search rules in
     λ e. subst (λ cause. IsCausedBy p has request.requirements.now (alternatives_of request.wishes.now) c.args.before.now cause c.args.solvable)
-    (sym is) (c.is_wished.ensures e)
+    (sym is) (c.is_wished_at.ensures e)
 
 pub returns-in-Required : goal.returns-in-Required
 returns-in-Required g c =
     let p = provided g c.args.selection.now.provider.now in
-    let has = g.D.SolvableId.Set.IdSet.has c.args.selection.now.picked in
+    let has = is_kept g.D.SolvableId.PartialEq.eq (g.D.SolvableId.Set.IdSet.has c.args.selection.now.picked) c.args.selection.now.left_out in
     let request = c.args.request.now in
     let is : c.args.cause ≡ Required c.in-Required.place = search rules in
     answered c.is_required_by.result

@@ -2,6 +2,7 @@ use Rattle.std.proofs.Common.{◌≡◌, ℕ, sym, subst, rules, IfOk, Option, S
 use Rattle.std.specs.Bool.{Decides}
 use Rattle.resolvo_pool.specs.Functions.{Provider, gathered}
 use Rattle.solutions.specs.Needed.{HoldsIfAny}
+use Rattle.solutions.specs.Selections.{is_kept}
 use Rattle.solutions.proofs.offers.holds_if_any.Given.{Over}
 use Rattle.solutions.proofs.offers.holds_if_any.Goals as goal
 
@@ -13,7 +14,7 @@ provided g = gathered g.D.NameId.PartialEq.eq g.D.SolvableId.PartialEq.eq g.D.Na
 pub returns-in-Some : goal.returns-in-Some
 returns-in-Some g c =
     let p = provided g c.args.selection.now.provider.now in
-    let has = g.D.SolvableId.Set.IdSet.has c.args.selection.now.picked in
+    let has = is_kept g.D.SolvableId.PartialEq.eq (g.D.SolvableId.Set.IdSet.has c.args.selection.now.picked) c.args.selection.now.left_out in
     let some : c.args.condition ≡ Some c.in-Some.condition = search rules in
     let Answers : Option ℕ → Type 0 = λ condition. IfOk c.is_known_to_hold.result (λ yes. Decides yes (HoldsIfAny p has condition)) in
     subst Answers (sym some) c.is_known_to_hold.ensures

@@ -1,6 +1,7 @@
 use Rattle.std.proofs.Common.{◌≡◌, true, false, rules}
 use Rattle.resolvo_pool.specs.Functions.{Provider, gathered}
 use Rattle.solutions.specs.Needed.{Offers}
+use Rattle.solutions.specs.Selections.{is_kept}
 use Rattle.solutions.proofs.DecisionLemmas.{next_holds, refuted}
 use Rattle.solutions.proofs.NeededLemmas.{next_passes, none_passes}
 use Rattle.solutions.proofs.offers.is_offered_by.Given.{Over}
@@ -14,7 +15,7 @@ provided g = gathered g.D.NameId.PartialEq.eq g.D.SolvableId.PartialEq.eq g.D.Na
 pub loop-requirement-preserved : goal.loop-requirement-preserved
 loop-requirement-preserved g c =
     let p = provided g c.args.selection.now.provider.now in
-    let has = g.D.SolvableId.Set.IdSet.has c.args.selection.now.picked in
+    let has = is_kept g.D.SolvableId.PartialEq.eq (g.D.SolvableId.Set.IdSet.has c.args.selection.now.picked) c.args.selection.now.left_out in
     let no : c.in_ok-offers.field-0 ≡ false = search rules in
     next_holds (λ r. Offers p has c.args.solvable r → ⊥) c.args.requirements.now c.loop-requirement.requirement-index c.requirement-item.result
     c.loop-requirement-test.true c.requirement-item.is (refuted no c.in_ok-offers.ensures) c.loop-requirement.invariant
@@ -22,7 +23,7 @@ loop-requirement-preserved g c =
 pub returns-then-branch : goal.returns-then-branch
 returns-then-branch g c =
     let p = provided g c.args.selection.now.provider.now in
-    let has = g.D.SolvableId.Set.IdSet.has c.args.selection.now.picked in
+    let has = is_kept g.D.SolvableId.PartialEq.eq (g.D.SolvableId.Set.IdSet.has c.args.selection.now.picked) c.args.selection.now.left_out in
     let yes : c.in_ok-offers.field-0 ≡ true = search rules in
     next_passes (Offers p has c.args.solvable) c.args.requirements.now c.loop-requirement.requirement-index c.requirement-item.result
     c.loop-requirement-test.true c.requirement-item.is (c.in_ok-offers.ensures.0 yes)
@@ -30,6 +31,6 @@ returns-then-branch g c =
 pub returns : goal.returns
 returns g c =
     let p = provided g c.args.selection.now.provider.now in
-    let has = g.D.SolvableId.Set.IdSet.has c.args.selection.now.picked in
+    let has = is_kept g.D.SolvableId.PartialEq.eq (g.D.SolvableId.Set.IdSet.has c.args.selection.now.picked) c.args.selection.now.left_out in
     none_passes (Offers p has c.args.solvable) c.args.requirements.now c.loop-requirement.requirement-index c.loop-requirement-test.false
     c.loop-requirement.invariant

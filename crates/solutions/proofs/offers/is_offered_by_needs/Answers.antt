@@ -3,6 +3,7 @@ use Rattle.std.specs.Bool.{Decides}
 use Rattle.resolvo_pool.specs.Dependencies.{Known, needs_of}
 use Rattle.resolvo_pool.specs.Functions.{Provider, gathered}
 use Rattle.solutions.specs.Needed.{IsOfferedBy, IsOfferedByNeeds}
+use Rattle.solutions.specs.Selections.{is_kept}
 use Rattle.solutions.proofs.DecisionLemmas.{answered}
 use Rattle.solutions.proofs.offers.is_offered_by_needs.Given.{Over}
 use Rattle.solutions.proofs.offers.is_offered_by_needs.Goals as goal
@@ -15,7 +16,7 @@ provided g = gathered g.D.NameId.PartialEq.eq g.D.SolvableId.PartialEq.eq g.D.Na
 pub returns-in-Known : goal.returns-in-Known
 returns-in-Known g c =
     let p = provided g c.args.selection.now.provider.now in
-    let has = g.D.SolvableId.Set.IdSet.has c.args.selection.now.picked in
+    let has = is_kept g.D.SolvableId.PartialEq.eq (g.D.SolvableId.Set.IdSet.has c.args.selection.now.picked) c.args.selection.now.left_out in
     let needs = c.in-Known.needs in
     let known : p.answers.needs c.args.parent ≡ Known needs.requirements.items needs.constrains.items =
     sym c.in_ok-needs.ensures.ok ∙ ap needs_of c.in-Known.is in

@@ -1,18 +1,14 @@
-use Rattle.std.proofs.Common.{◌≡◌, ◌∙◌, ◌||◌, Bool, true, false, not, if◌then◌else◌, get_or, ap, sym, rules}
+use Rattle.std.proofs.Common.{◌≡◌, ◌∙◌, ◌||◌, true, false, get_or, ap, sym, rules}
 use Rattle.std.specs.List.{list_any}
 use Rattle.std.proofs.lemmas.List.{take_all}
 use Rattle.std.proofs.lemmas.List.Folds.{list_any_more}
-use Rattle.solutions.specs.declared.wish.Alternative.{Alternative}
+use Rattle.solutions.specs.Selections.{is_kept, is_so_by}
 use Rattle.solutions.proofs.RankLemmas.{before_first, before_none}
 use Rattle.solutions.proofs.ranking.rank.Goals as goal
 
--- whether an alternative is so
-abbrev test_of : {S : Type 0} → (S → Bool) → Alternative S → Bool
-test_of has a = if a.is_picked then has a.solvable else not (has a.solvable)
-
 pub loop-place-preserved : goal.loop-place-preserved
 loop-place-preserved g c =
-    let test = test_of (g.D.SolvableId.Set.IdSet.has c.args.selection.now.picked) in
+    let test = is_so_by (is_kept g.D.SolvableId.PartialEq.eq (g.D.SolvableId.Set.IdSet.has c.args.selection.now.picked) c.args.selection.now.left_out) in
     let xs = c.args.alternatives.now in
     let i = c.loop-place.place in
     let x = c.index-alternatives-place.result in
@@ -22,7 +18,7 @@ loop-place-preserved g c =
 
 pub returns-then-is_so : goal.returns-then-is_so
 returns-then-is_so g c =
-    let test = test_of (g.D.SolvableId.Set.IdSet.has c.args.selection.now.picked) in
+    let test = is_so_by (is_kept g.D.SolvableId.PartialEq.eq (g.D.SolvableId.Set.IdSet.has c.args.selection.now.picked) c.args.selection.now.left_out) in
     let xs = c.args.alternatives.now in
     let i = c.loop-place.place in
     let x = c.index-alternatives-place.result in
@@ -31,6 +27,6 @@ returns-then-is_so g c =
 
 pub returns : goal.returns
 returns g c =
-    let test = test_of (g.D.SolvableId.Set.IdSet.has c.args.selection.now.picked) in
+    let test = is_so_by (is_kept g.D.SolvableId.PartialEq.eq (g.D.SolvableId.Set.IdSet.has c.args.selection.now.picked) c.args.selection.now.left_out) in
     let xs = c.args.alternatives.now in
     sym (before_none test xs (ap (list_any test) (sym (take_all c.loop-place.place xs c.loop-place-test.false)) ∙ c.loop-place.invariant))

@@ -1,6 +1,7 @@
 use Rattle.std.proofs.Common.{take}
 use Rattle.std.specs.List.{All}
 use Rattle.resolvo_pool.specs.Functions.{gathered}
+use Rattle.solutions.specs.Selections.{is_kept}
 use Rattle.solutions.specs.Truth.{IsFit}
 use Rattle.solutions.proofs.solution.are_all_fit.Given as goal
 
@@ -9,4 +10,4 @@ invariant-loop-solvable g l =
     let D = g.D in
     let p = gathered D.NameId.PartialEq.eq D.SolvableId.PartialEq.eq D.NameId.Slots.IdMap.is_too_large D.SolvableId.Slots.IdMap.is_too_large
     D.SolvableId.Set.IdSet.is_too_large D.NameId.SolverId.are_many D.Interner.universe D.DependencyProvider.answers l.selection.provider.now in
-    All (IsFit p (D.SolvableId.Set.IdSet.has l.selection.picked)) (take l.solvable-index l.solvables)
+    All (IsFit p (is_kept D.SolvableId.PartialEq.eq (D.SolvableId.Set.IdSet.has l.selection.picked) l.selection.left_out)) (take l.solvable-index l.solvables)

@@ -3,6 +3,7 @@ use Rattle.std.specs.Bool.{Decides}
 use Rattle.std.specs.List.{All, list_all}
 use Rattle.resolvo_pool.specs.Dependencies.{Known, needs_of}
 use Rattle.resolvo_pool.specs.Functions.{Provider, gathered}
+use Rattle.solutions.specs.Selections.{is_kept}
 use Rattle.solutions.specs.Solutions.{IsSatisfied, is_respected}
 use Rattle.solutions.proofs.DecisionLemmas.{answered}
 use Rattle.solutions.proofs.SolutionLemmas.{known_needs_satisfied}
@@ -17,7 +18,7 @@ provided g = gathered g.D.NameId.PartialEq.eq g.D.SolvableId.PartialEq.eq g.D.Na
 pub returns-else-not-branch : goal.returns-else-not-branch
 returns-else-not-branch g c =
     let p = provided g c.args.selection.now.provider.now in
-    let has = g.D.SolvableId.Set.IdSet.has c.args.selection.now.picked in
+    let has = is_kept g.D.SolvableId.PartialEq.eq (g.D.SolvableId.Set.IdSet.has c.args.selection.now.picked) c.args.selection.now.left_out in
     let needs = c.in-Known.needs in
     let known : p.answers.needs c.args.solvable ≡ Known needs.requirements.items needs.constrains.items =
     sym c.in_ok-needs.ensures.ok ∙ ap needs_of c.in-Known.is in

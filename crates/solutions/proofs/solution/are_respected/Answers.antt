@@ -3,6 +3,7 @@ use Rattle.std.specs.List.{list_all}
 use Rattle.std.proofs.lemmas.List.{take_all}
 use Rattle.std.proofs.lemmas.List.Folds.{list_all_at, list_all_more}
 use Rattle.resolvo_pool.specs.Functions.{Provider, gathered}
+use Rattle.solutions.specs.Selections.{is_kept}
 use Rattle.solutions.specs.Solutions.{is_respected}
 use Rattle.solutions.proofs.solution.are_respected.Given.{Over}
 use Rattle.solutions.proofs.solution.are_respected.Goals as goal
@@ -14,7 +15,7 @@ provided g = gathered g.D.NameId.PartialEq.eq g.D.SolvableId.PartialEq.eq g.D.Na
 
 pub loop-set-preserved : goal.loop-set-preserved
 loop-set-preserved g c =
-    let test = is_respected (provided g c.args.selection.now.provider.now) (g.D.SolvableId.Set.IdSet.has c.args.selection.now.picked) in
+    let test = is_respected (provided g c.args.selection.now.provider.now) (is_kept g.D.SolvableId.PartialEq.eq (g.D.SolvableId.Set.IdSet.has c.args.selection.now.picked) c.args.selection.now.left_out) in
     let sets = c.args.sets.now in
     let i = c.loop-set.set-index in
     let set = get_or sets i (record { 0 = 0 }) in
@@ -23,7 +24,7 @@ loop-set-preserved g c =
 
 pub returns-then-not-branch : goal.returns-then-not-branch
 returns-then-not-branch g c =
-    let test = is_respected (provided g c.args.selection.now.provider.now) (g.D.SolvableId.Set.IdSet.has c.args.selection.now.picked) in
+    let test = is_respected (provided g c.args.selection.now.provider.now) (is_kept g.D.SolvableId.PartialEq.eq (g.D.SolvableId.Set.IdSet.has c.args.selection.now.picked) c.args.selection.now.left_out) in
     let sets = c.args.sets.now in
     let i = c.loop-set.set-index in
     let last : c.in_ok-respects.field-0 ≡ false = search rules in
@@ -31,7 +32,7 @@ returns-then-not-branch g c =
 
 pub returns : goal.returns
 returns g c =
-    let test = is_respected (provided g c.args.selection.now.provider.now) (g.D.SolvableId.Set.IdSet.has c.args.selection.now.picked) in
+    let test = is_respected (provided g c.args.selection.now.provider.now) (is_kept g.D.SolvableId.PartialEq.eq (g.D.SolvableId.Set.IdSet.has c.args.selection.now.picked) c.args.selection.now.left_out) in
     let sets = c.args.sets.now in
     let i = c.loop-set.set-index in
     sym (ap (list_all test) (sym (take_all i sets c.loop-set-test.false)) ∙ c.loop-set.invariant)

@@ -1,6 +1,7 @@
 use Rattle.std.proofs.Common.{◌≡◌, true, take}
 use Rattle.std.specs.List.{list_all}
 use Rattle.resolvo_pool.specs.Functions.{gathered}
+use Rattle.solutions.specs.Selections.{is_kept}
 use Rattle.solutions.specs.Solutions.{is_respected}
 use Rattle.solutions.proofs.solution.are_respected.Given as goal
 
@@ -9,4 +10,4 @@ invariant-loop-set g l =
     let D = g.D in
     let p = gathered D.NameId.PartialEq.eq D.SolvableId.PartialEq.eq D.NameId.Slots.IdMap.is_too_large D.SolvableId.Slots.IdMap.is_too_large
     D.SolvableId.Set.IdSet.is_too_large D.NameId.SolverId.are_many D.Interner.universe D.DependencyProvider.answers l.selection.provider.now in
-    list_all (is_respected p (D.SolvableId.Set.IdSet.has l.selection.picked)) (take l.set-index l.sets) ≡ true
+    list_all (is_respected p (is_kept D.SolvableId.PartialEq.eq (D.SolvableId.Set.IdSet.has l.selection.picked) l.selection.left_out)) (take l.set-index l.sets) ≡ true

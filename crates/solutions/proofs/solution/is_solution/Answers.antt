@@ -2,6 +2,7 @@ use Rattle.std.proofs.Common.{subst}
 use Rattle.std.specs.Bool.{Decides}
 use Rattle.std.specs.List.{All}
 use Rattle.resolvo_pool.specs.Functions.{Provider, gathered}
+use Rattle.solutions.specs.Selections.{is_kept}
 use Rattle.solutions.specs.Solutions.{IsSatisfied}
 use Rattle.solutions.specs.Truth.{IsFit}
 use Rattle.solutions.proofs.DecisionLemmas.{answered}
@@ -19,7 +20,7 @@ returns-then-not-branch-2 g c =
     let p = provided g c.args.provider.now in
     let requested = c.args.requested.now in
     let selection = c.in_ok-selection.selection in
-    let has = g.D.SolvableId.Set.IdSet.has selection.picked in
+    let has = is_kept g.D.SolvableId.PartialEq.eq (g.D.SolvableId.Set.IdSet.has selection.picked) selection.left_out in
     requested_fails p requested c.args.picked.now has c.in_ok-selection.ensures.picked c.in_ok-are_satisfied.field-0 c.if-not-branch-2.true
     (subst (λ provider. Decides c.in_ok-are_satisfied.field-0 (All (IsSatisfied (provided g provider) has) requested))
     c.in_ok-selection.ensures.provider c.in_ok-are_satisfied.ensures)
@@ -30,7 +31,7 @@ returns g c =
     let requested = c.args.requested.now in
     let picked = c.args.picked.now in
     let selection = c.in_ok-selection.selection in
-    let has = g.D.SolvableId.Set.IdSet.has selection.picked in
+    let has = is_kept g.D.SolvableId.PartialEq.eq (g.D.SolvableId.Set.IdSet.has selection.picked) selection.left_out in
     let same = c.in_ok-selection.ensures.provider in
     answered c.are_all_fit.result
     (λ b fit. fit_decide p requested picked has c.in_ok-selection.ensures.picked

@@ -1,8 +1,6 @@
-use Rattle.std.proofs.Common.{◌≡◌, true, subst, rules}
-use Rattle.std.proofs.Math.Path.{fun_ext}
-use Rattle.std.specs.Bool.{Decides}
+use Rattle.std.proofs.Common.{◌≡◌, ◌∙◌, true, sym, rules}
 use Rattle.resolvo_pool.specs.Functions.{Provider, gathered}
-use Rattle.solutions.specs.Solutions.{AreNeedsSatisfied}
+use Rattle.solutions.specs.Selections.{is_kept}
 use Rattle.solutions.proofs.SpareLemmas.{needs_fail, not_true}
 use Rattle.solutions.proofs.spare.is_need_unsatisfied.Given.{Over}
 use Rattle.solutions.proofs.spare.is_need_unsatisfied.Goals as goal
@@ -14,12 +12,10 @@ provided g = gathered g.D.NameId.PartialEq.eq g.D.SolvableId.PartialEq.eq g.D.Na
 
 pub returns : goal.returns
 returns g c =
-    let p = provided g c.args.choice.now.provider.now in
-    let requested = c.args.choice.now.request.now.requirements.now in
-    let has = g.D.SolvableId.Set.IdSet.has c.in_ok-selection.selection.picked in
-    let b = c.in_ok-are_needs_satisfied.field-0 in
+    let selection = c.args.selection.now in
+    let has = is_kept g.D.SolvableId.PartialEq.eq (g.D.SolvableId.Set.IdSet.has selection.picked) selection.left_out in
     let parent = c.in-Some.parent.now in
-    let among : has parent ≡ true = search rules in
-    λ e. needs_fail p g.met.D.SolvableId.SameValue.same requested c.args.rest.now has (fun_ext c.in_ok-selection.ensures.picked) parent among b (not_true b e)
-    (subst (λ provider. Decides b (AreNeedsSatisfied (provided g provider) has ((provided g provider).answers.needs parent)))
-    c.in_ok-selection.ensures.provider c.in_ok-are_needs_satisfied.ensures)
+    let yes : c.picks.result ≡ true = search rules in
+    let b = c.in_ok-are_needs_satisfied.field-0 in
+    λ e. needs_fail (provided g selection.provider.now) c.args.choice.now.request.now.requirements.now has g.met.D.SolvableId.SameValue.same parent
+    (sym c.picks.ensures ∙ yes) b (not_true b e) c.in_ok-are_needs_satisfied.ensures

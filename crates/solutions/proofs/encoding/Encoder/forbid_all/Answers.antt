@@ -28,4 +28,4 @@ loop-solvable-preserved g c =
     c.loop-solvable.invariant
     (L.still_added p IsSo c.loop-solvable.theory.clauses.items c.add_binary.new.self.clauses.items (c.args.unless ∷ l ∷ []) c.in_ok-add_binary.ensures
     (λ picked left_out. L.unpicked_satisfied p c.args.unless l xs c.loop-solvable.solvable-index x picked c.loop-solvable-test.true c.solvable-item.is
-    (L.unpicked_literal p g.met.D.NameId.Eq.laws.refl l x fact value picked) left_out))
+    (L.unpicked_literal p l x fact value picked) left_out))

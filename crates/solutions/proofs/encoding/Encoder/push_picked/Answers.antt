@@ -31,7 +31,7 @@ loop-solvable-preserved g c =
     c.args.clause.now.items c.loop-solvable.clause.items c.push.new.self.items
     (λ q. L.any_more (is_among p q) xs i x c.loop-solvable-test.true c.solvable-item.is) c.loop-solvable.invariant
     (L.or_one p (λ q. is_among p q x) c.loop-solvable.clause.items c.push.new.self.items l pushed
-    (L.picked_literal p g.met.D.NameId.Eq.laws.refl l x fact value))
+    (L.picked_literal p l x fact value))
 
 pub returns : goal.returns
 returns g c =

@@ -37,8 +37,8 @@ pub returns-in_default-clause-replayed : goal.returns-in_default-clause-replayed
 returns-in_default-clause-replayed g c = c.loop-place.invariant.replayed
 
 pub returns-clause-at_least : goal.returns-clause-at_least
-returns-clause-at_least g c = λ e holds one met true_ones.
-    let least = c.loop-place.invariant.at_least holds one met true_ones in
+returns-clause-at_least g c = λ e holds met true_ones.
+    let least = c.loop-place.invariant.at_least holds met true_ones in
     let end = c.loop-place-test.false in
     omega arith
 

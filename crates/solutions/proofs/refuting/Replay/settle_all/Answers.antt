@@ -27,6 +27,6 @@ pub returns-in_default : goal.returns-in_default
 returns-in_default g c = c.loop-place.invariant.unbeaten
 
 pub returns : goal.returns
-returns g c = λ holds one met true_ones place less at.
+returns g c = λ holds met true_ones place less at.
     let end = c.loop-place-test.false in
-    c.loop-place.invariant.unbeaten holds one met true_ones place (omega arith) at
+    c.loop-place.invariant.unbeaten holds met true_ones place (omega arith) at

@@ -2,6 +2,7 @@ use Rattle.std.proofs.Common.{◌∙◌, Bool, map, sym, ap}
 use Rattle.resolvo_ids.specs.Types.VersionSetId.{VersionSetId}
 use Rattle.resolvo_pool.specs.Conditions.{form_holds}
 use Rattle.resolvo_pool.specs.Functions.{Provider, gathered}
+use Rattle.solutions.specs.Selections.{is_kept}
 use Rattle.solutions.specs.Solutions.{has_picked}
 use Rattle.solutions.proofs.DecisionLemmas.{answered}
 use Rattle.solutions.proofs.selection.Selection.condition_holds.Given.{Over}
@@ -14,7 +15,7 @@ provided g = gathered g.D.NameId.PartialEq.eq g.D.SolvableId.PartialEq.eq g.D.Na
 
 pub returns-clause-ok : goal.returns-clause-ok
 returns-clause-ok g c =
-    let test : VersionSetId → Bool = has_picked (provided g c.args.self.now.provider.now) (g.D.SolvableId.Set.IdSet.has c.args.self.now.picked) in
+    let test : VersionSetId → Bool = has_picked (provided g c.args.self.now.provider.now) (is_kept g.D.SolvableId.PartialEq.eq (g.D.SolvableId.Set.IdSet.has c.args.self.now.picked) c.args.self.now.left_out) in
     let written = c.in_ok-lists.ensures.written in
     let truth = c.in_ok-lists.ensures.truth in
     let same = ap (λ lists. form_holds test (map (λ l. l.items) lists)) c.deref.ensures.value in

@@ -5,6 +5,7 @@ use Rattle.std.proofs.lemmas.List.Folds.{list_any_at, list_any_more}
 use Rattle.std.proofs.Common.{rules}
 use Rattle.resolvo_ids.specs.Types.VersionSetId.{VersionSetId}
 use Rattle.resolvo_pool.specs.Functions.{Provider, gathered}
+use Rattle.solutions.specs.Selections.{is_kept}
 use Rattle.solutions.specs.Solutions.{has_picked}
 use Rattle.solutions.proofs.DecisionLemmas.{some_passes}
 use Rattle.solutions.proofs.selection.Selection.has_all_of_some.Given.{Over}
@@ -17,7 +18,7 @@ provided g = gathered g.D.NameId.PartialEq.eq g.D.SolvableId.PartialEq.eq g.D.Na
 
 pub returns-then-branch-clause-ok : goal.returns-then-branch-clause-ok
 returns-then-branch-clause-ok g c =
-    let test : List VersionSetId → Bool = list_all (has_picked (provided g c.args.self.now.provider.now) (g.D.SolvableId.Set.IdSet.has c.args.self.now.picked)) in
+    let test : List VersionSetId → Bool = list_all (has_picked (provided g c.args.self.now.provider.now) (is_kept g.D.SolvableId.PartialEq.eq (g.D.SolvableId.Set.IdSet.has c.args.self.now.picked) c.args.self.now.left_out)) in
     let lists = c.args.lists.now in
     let i = c.loop-list.list-index in
     let x = c.list-item.result in
@@ -27,7 +28,7 @@ returns-then-branch-clause-ok g c =
 
 pub loop-list-preserved : goal.loop-list-preserved
 loop-list-preserved g c =
-    let test : List VersionSetId → Bool = list_all (has_picked (provided g c.args.self.now.provider.now) (g.D.SolvableId.Set.IdSet.has c.args.self.now.picked)) in
+    let test : List VersionSetId → Bool = list_all (has_picked (provided g c.args.self.now.provider.now) (is_kept g.D.SolvableId.PartialEq.eq (g.D.SolvableId.Set.IdSet.has c.args.self.now.picked) c.args.self.now.left_out)) in
     let lists = c.args.lists.now in
     let i = c.loop-list.list-index in
     let x = c.list-item.result in
@@ -39,7 +40,7 @@ loop-list-preserved g c =
 
 pub returns-clause-ok : goal.returns-clause-ok
 returns-clause-ok g c =
-    let test : List VersionSetId → Bool = list_all (has_picked (provided g c.args.self.now.provider.now) (g.D.SolvableId.Set.IdSet.has c.args.self.now.picked)) in
+    let test : List VersionSetId → Bool = list_all (has_picked (provided g c.args.self.now.provider.now) (is_kept g.D.SolvableId.PartialEq.eq (g.D.SolvableId.Set.IdSet.has c.args.self.now.picked) c.args.self.now.left_out)) in
     let lists = c.args.lists.now in
     sym (some_passes (λ l. l.items) test lists
     ∙ ap (list_any (λ l. test l.items)) (sym (take_all c.loop-list.list-index lists c.loop-list-test.false)) ∙ c.loop-list.invariant)

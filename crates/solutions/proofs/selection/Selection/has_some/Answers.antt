@@ -3,6 +3,7 @@ use Rattle.std.specs.List.{list_any}
 use Rattle.std.proofs.lemmas.List.{take_all}
 use Rattle.std.proofs.lemmas.List.Folds.{list_any_at, list_any_more}
 use Rattle.resolvo_pool.specs.Functions.{Provider, gathered}
+use Rattle.solutions.specs.Selections.{is_kept}
 use Rattle.solutions.specs.Solutions.{has_picked}
 use Rattle.solutions.proofs.selection.Selection.has_some.Given.{Over}
 use Rattle.solutions.proofs.selection.Selection.has_some.Goals as goal
@@ -14,7 +15,7 @@ provided g = gathered g.D.NameId.PartialEq.eq g.D.SolvableId.PartialEq.eq g.D.Na
 
 pub loop-set-preserved : goal.loop-set-preserved
 loop-set-preserved g c =
-    let test = has_picked (provided g c.args.self.now.provider.now) (g.D.SolvableId.Set.IdSet.has c.args.self.now.picked) in
+    let test = has_picked (provided g c.args.self.now.provider.now) (is_kept g.D.SolvableId.PartialEq.eq (g.D.SolvableId.Set.IdSet.has c.args.self.now.picked) c.args.self.now.left_out) in
     let sets = c.args.sets.now in
     let i = c.loop-set.set-index in
     let set = get_or sets i (record { 0 = 0 }) in
@@ -23,7 +24,7 @@ loop-set-preserved g c =
 
 pub returns-then-branch-clause-ok : goal.returns-then-branch-clause-ok
 returns-then-branch-clause-ok g c =
-    let test = has_picked (provided g c.args.self.now.provider.now) (g.D.SolvableId.Set.IdSet.has c.args.self.now.picked) in
+    let test = has_picked (provided g c.args.self.now.provider.now) (is_kept g.D.SolvableId.PartialEq.eq (g.D.SolvableId.Set.IdSet.has c.args.self.now.picked) c.args.self.now.left_out) in
     let sets = c.args.sets.now in
     let i = c.loop-set.set-index in
     let last : c.in_ok-has_picked.field-0 ≡ true = search rules in
@@ -31,7 +32,7 @@ returns-then-branch-clause-ok g c =
 
 pub returns-clause-ok : goal.returns-clause-ok
 returns-clause-ok g c =
-    let test = has_picked (provided g c.args.self.now.provider.now) (g.D.SolvableId.Set.IdSet.has c.args.self.now.picked) in
+    let test = has_picked (provided g c.args.self.now.provider.now) (is_kept g.D.SolvableId.PartialEq.eq (g.D.SolvableId.Set.IdSet.has c.args.self.now.picked) c.args.self.now.left_out) in
     let sets = c.args.sets.now in
     let i = c.loop-set.set-index in
     sym (ap (list_any test) (sym (take_all i sets c.loop-set-test.false)) ∙ c.loop-set.invariant)

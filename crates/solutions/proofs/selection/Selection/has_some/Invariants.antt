@@ -1,6 +1,7 @@
 use Rattle.std.proofs.Common.{◌≡◌, false, take}
 use Rattle.std.specs.List.{list_any}
 use Rattle.resolvo_pool.specs.Functions.{gathered}
+use Rattle.solutions.specs.Selections.{is_kept}
 use Rattle.solutions.specs.Solutions.{has_picked}
 use Rattle.solutions.proofs.selection.Selection.has_some.Given as goal
 
@@ -9,4 +10,4 @@ invariant-loop-set g l =
     let D = g.D in
     let p = gathered D.NameId.PartialEq.eq D.SolvableId.PartialEq.eq D.NameId.Slots.IdMap.is_too_large D.SolvableId.Slots.IdMap.is_too_large
     D.SolvableId.Set.IdSet.is_too_large D.NameId.SolverId.are_many D.Interner.universe D.DependencyProvider.answers l.self.provider.now in
-    list_any (has_picked p (D.SolvableId.Set.IdSet.has l.self.picked)) (take l.set-index l.sets) ≡ false
+    list_any (has_picked p (is_kept D.SolvableId.PartialEq.eq (D.SolvableId.Set.IdSet.has l.self.picked) l.self.left_out)) (take l.set-index l.sets) ≡ false

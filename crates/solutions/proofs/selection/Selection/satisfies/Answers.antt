@@ -1,6 +1,7 @@
 use Rattle.std.proofs.Common.{◌≡◌, ℕ, sym, subst, rules, IfOk, Option, Some}
 use Rattle.std.specs.Bool.{Decides}
 use Rattle.resolvo_pool.specs.Functions.{Provider, gathered}
+use Rattle.solutions.specs.Selections.{is_kept}
 use Rattle.solutions.specs.Solutions.{IsSatisfiedUnder}
 use Rattle.solutions.proofs.selection.Selection.satisfies.Given.{Over}
 use Rattle.solutions.proofs.selection.Selection.satisfies.Goals as goal
@@ -13,7 +14,7 @@ provided g = gathered g.D.NameId.PartialEq.eq g.D.SolvableId.PartialEq.eq g.D.Na
 pub returns-in-Some-clause-ok : goal.returns-in-Some-clause-ok
 returns-in-Some-clause-ok g c =
     let p = provided g c.args.self.now.provider.now in
-    let has = g.D.SolvableId.Set.IdSet.has c.args.self.now.picked in
+    let has = is_kept g.D.SolvableId.PartialEq.eq (g.D.SolvableId.Set.IdSet.has c.args.self.now.picked) c.args.self.now.left_out in
     let under : c.args.conditional.condition ≡ Some c.in-Some.condition = search rules in
     let Answers : Option ℕ → Type 0 = λ condition. IfOk c.satisfies_under.result (λ yes. Decides yes (IsSatisfiedUnder p has condition c.args.conditional.requirement)) in
     subst Answers (sym under) c.satisfies_under.ensures.ok
