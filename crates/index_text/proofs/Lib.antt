@@ -7,4 +7,5 @@ pub mod OrderLemmas
 pub mod PartLemmas
 pub mod Printed
 pub mod SemverTexts
+pub mod StopLemmas
 pub mod WordLemmas

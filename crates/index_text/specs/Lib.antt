@@ -1,5 +1,6 @@
 pub mod Diagnoses
 pub mod Entries
+pub mod Expected
 pub mod Index
 pub mod Indexes
 pub mod Lines

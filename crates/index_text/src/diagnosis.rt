@@ -2,6 +2,8 @@
 ghost use Rattle.std.specs.Prelude.{◌≡◌, not, IfOk, IfSome, is_some, map, option_and_then, option_map};
 ghost use Rattle.script_text.specs.Lines.{IsPrinted};
 ghost use Rattle.index_text.specs.Diagnoses.{IsPlace, IsPlaceIn, is_first, is_new, is_readable, line_of, line_in};
+ghost use Rattle.index_text.specs.Expected.{IsTold, expected_in, expected_of_line, in_format};
+ghost use Rattle.index_text.specs.Indexes.{words_in};
 ghost use Rattle.index_text.specs.Lines.{request_said, version_said};
 ghost use Rattle.index_text.specs.PlainLines.{plain_line};
 ghost use Rattle.index_text.specs.Printed.{first_line};
@@ -34,6 +36,7 @@ pub fn diagnose(
 ) -> Result<Option<Diagnosis>, AllocError>
     ensures none { IfOk result (λ fault. not (is_some fault) ≡ is_readable number (map plain_line lines.now)) }
     ensures place { IfOk result (λ fault. IfSome fault (IsPlaceIn (line_of number lines.now))) }
+    ensures told { IfOk result (λ fault. IfSome fault (IsTold number (map plain_line lines.now))) }
 {
     let Some(line) = line_of(lines, number) else {
         return Ok(None);
@@ -77,6 +80,8 @@ fn request_fault<'t>(
     ensures none { IfOk result (λ fault. not (is_some fault) ≡
         is_some (option_and_then (request_said (plain_format reader.old.format)) (plain_line line.now).words)) }
     ensures place { IfOk result (λ fault. IfSome fault (IsPlace (first_line line.now.text.now))) }
+    ensures told { IfOk result (λ fault. IfSome fault (λ d. d.expected ≡ in_format (plain_format reader.old.format)
+        (expected_in (plain_format reader.old.format) LineKind.Request (plain_line line.now).words))) }
 {
     if reader.request(line)?.is_some() {
         return Ok(None);
@@ -95,6 +100,8 @@ fn version_fault<'t>(
         is_new (plain_format reader.old.format) number (map plain_line lines.now)
         (option_and_then (version_said (plain_format reader.old.format)) (plain_line line.now).words)) }
     ensures place { IfOk result (λ fault. IfSome fault (IsPlace (first_line line.now.text.now))) }
+    ensures told { IfOk result (λ fault. IfSome fault (λ d. d.expected ≡ expected_of_line
+        (plain_format reader.old.format) number (map plain_line lines.now) (plain_line line.now).words)) }
 {
     let bytes = raw_line(line.text);
     let Some(version) = reader.version(line)? else {
@@ -109,6 +116,7 @@ fn earlier_fault(line: &[u8], earlier: Option<u64>) -> Option<Diagnosis>
     requires { IsPrinted line.now }
     ensures some { is_some result ≡ is_some earlier }
     ensures place { IfSome result (IsPlace line.now) }
+    ensures told { option_map (λ d. d.expected) result ≡ option_map (λ n. Expected.DuplicateOf n) earlier }
 {
     let earlier = earlier?;
     Some(Diagnosis {
@@ -119,7 +127,9 @@ fn earlier_fault(line: &[u8], earlier: Option<u64>) -> Option<Diagnosis>
 
 /// The diagnosis of a line that can't be read as one of this kind.
 fn stop_of(reader: &Reader<'_>, line: &[u8], kind: LineKind) -> Result<Diagnosis, AllocError>
-    ensures { IfOk result (IsPlace line.now) }
+    ensures place { IfOk result (IsPlace line.now) }
+    ensures told { IfOk result (λ d. d.expected ≡ in_format (plain_format reader.now.format)
+        (expected_in (plain_format reader.now.format) kind (words_in line.now))) }
 {
     let stop = line_stop(reader.alloc, &reader.format, line, kind)?;
     Ok(Diagnosis {

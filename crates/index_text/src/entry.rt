@@ -36,7 +36,7 @@ pub enum Entry<'t> {
 
 /// Whether the word begins an entry.
 #[inline(always)]
-fn is_entry(word: &str) -> bool
+pub(crate) fn is_entry(word: &str) -> bool
     ensures { result ≡ is_entry word.now }
 {
     let word = word.as_bytes();

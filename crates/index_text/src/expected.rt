@@ -1,4 +1,8 @@
 //! What an unreadable line should have.
+ghost use Rattle.std.specs.Prelude.{◌≡◌};
+ghost use Rattle.index_text.specs.Expected.{in_format, in_semver};
+ghost use Rattle.index_text.specs.PlainFormats.{plain_format};
+
 use crate::format::VersionFormat;
 use std::fmt;
 
@@ -41,11 +45,23 @@ pub enum Expected {
 
 impl Expected {
     /// The same, in this format's words.
-    pub(crate) fn in_format(self, format: &VersionFormat) -> Expected {
-        match (format, self) {
-            (VersionFormat::Semver(_), Expected::Version) => Expected::SemverVersion,
-            (VersionFormat::Semver(_), Expected::Range) => Expected::SemverRange,
-            _ => self,
+    pub(crate) fn in_format(self, format: &VersionFormat) -> Expected
+        ensures { result ≡ in_format (plain_format format.now) self }
+    {
+        match format {
+            VersionFormat::Numbers => self,
+            VersionFormat::Semver(_) => self.in_semver(),
+        }
+    }
+
+    /// The same, where versions are SemVer versions.
+    fn in_semver(self) -> Expected
+        ensures { result ≡ in_semver self }
+    {
+        match self {
+            Expected::Version => Expected::SemverVersion,
+            Expected::Range => Expected::SemverRange,
+            other => other,
         }
     }
 }

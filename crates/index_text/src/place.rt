@@ -1,7 +1,16 @@
 //! What may stand at a place of a line's entries.
+ghost use Rattle.std.specs.Prelude.{◌≡◌, IfOk};
+ghost use Rattle.std.specs.Result.{result_err};
+ghost use Rattle.index_text.specs.Expected.{behind_name, behind_entry, behind_keyword, behind_union, behind_condition};
+ghost use Rattle.index_text.specs.Expected.{behind_range, behind_set, expected_at, is_junction, is_keyword};
+ghost use Rattle.index_text.specs.Expected.{is_separator, place_behind};
+ghost use Rattle.index_text.specs.PlainFormats.{plain_format};
+
+use crate::entry::is_entry;
 use crate::expected::Expected;
 use crate::format::VersionFormat;
-use crate::set::{BadRange, range};
+use crate::set::{BadRange, read_range};
+use script_text::is_word;
 use std::alloc::{AllocError, Global};
 
 /// What a line is.
@@ -45,73 +54,146 @@ impl Place {
         format: &VersionFormat,
         word: &str,
         kind: LineKind,
-    ) -> Result<Result<Place, Expected>, AllocError> {
-        let next = match self {
-            Place::Range(part) => return Ok(behind_range(
-                range(alloc, format, word.as_bytes())?,
+    ) -> Result<Result<Place, Expected>, AllocError>
+        ensures { IfOk result (λ next. next ≡ place_behind (plain_format format.now) kind self word.now) }
+    {
+        match self {
+            Place::Range(part) => Ok(behind_range(
+                read_range(alloc, format, word.as_bytes())?,
                 part,
             )),
-            Place::Name(part) => behind_name(word, part),
-            Place::Union => match word {
-                "|" => Some(Place::Name(Part::Union)),
-                "if" => Some(Place::Name(Part::Condition)),
-                _ => behind_entry(word, kind),
-            },
-            Place::Condition => match word {
-                "and" | "or" => Some(Place::Name(Part::Condition)),
-                _ => behind_entry(word, kind),
-            },
-            Place::First | Place::Entry => behind_entry(word, kind),
-        };
-        Ok(next.ok_or(self.expected(kind)))
+            Place::Name(part) => Ok(behind_name(word, part).ok_or(Expected::Name)),
+            Place::Union => Ok(behind_union(word, kind).ok_or(self.expected(kind))),
+            Place::Condition => Ok(behind_condition(word, kind).ok_or(self.expected(kind))),
+            Place::First | Place::Entry => Ok(behind_entry(word, kind).ok_or(self.expected(kind))),
+        }
     }
 
     /// What may stand here.
-    pub(crate) fn expected(self, kind: LineKind) -> Expected {
+    pub(crate) fn expected(self, kind: LineKind) -> Expected
+        ensures { result ≡ expected_at kind self }
+    {
         match (self, kind) {
             (Place::Name(_), _) => Expected::Name,
             (Place::Range(_), _) => Expected::Range,
+            (Place::First, LineKind::Request) => Expected::Need,
+            (Place::Entry, LineKind::Request) => Expected::Need,
             (Place::Union, LineKind::Request) => Expected::UnionOrNeed,
-            (Place::Union, LineKind::Version) => Expected::UnionOrEntry,
             (Place::Condition, LineKind::Request) => Expected::ConditionOrNeed,
-            (Place::Condition, LineKind::Version) => Expected::ConditionOrEntry,
-            (_, LineKind::Request) => Expected::Need,
             (Place::First, LineKind::Version) => Expected::State,
             (Place::Entry, LineKind::Version) => Expected::Entry,
+            (Place::Union, LineKind::Version) => Expected::UnionOrEntry,
+            (Place::Condition, LineKind::Version) => Expected::ConditionOrEntry,
         }
     }
 }
 
 /// The place behind a word that begins an entry; none if it begins none.
-fn behind_entry(word: &str, kind: LineKind) -> Option<Place> {
-    match (word, kind) {
-        ("needs", _) => Some(Place::Name(Part::Union)),
-        ("limits", LineKind::Version) => Some(Place::Name(Part::Limits)),
-        ("favored" | "locked", LineKind::Version) => Some(Place::Entry),
-        _ => None,
+fn behind_entry(word: &str, kind: LineKind) -> Option<Place>
+    ensures { result ≡ behind_entry kind word.now }
+{
+    if is_word(word.as_bytes(), b"needs") {
+        return Some(Place::Name(Part::Union));
+    }
+    match kind {
+        LineKind::Request => None,
+        LineKind::Version => behind_keyword(word),
     }
 }
 
+/// The same of another word than `needs`, in the line of a version.
+fn behind_keyword(word: &str) -> Option<Place>
+    ensures { result ≡ behind_keyword word.now }
+{
+    if is_word(word.as_bytes(), b"limits") {
+        return Some(Place::Name(Part::Limits));
+    }
+    if is_entry(word) {
+        Some(Place::Entry)
+    } else {
+        None
+    }
+}
+
+/// The place behind a word that goes on behind a set of a union.
+fn behind_union(word: &str, kind: LineKind) -> Option<Place>
+    ensures { result ≡ behind_union kind word.now }
+{
+    if is_word(word.as_bytes(), b"|") {
+        return Some(Place::Name(Part::Union));
+    }
+    if is_word(word.as_bytes(), b"if") {
+        return Some(Place::Name(Part::Condition));
+    }
+    behind_entry(word, kind)
+}
+
+/// The place behind a word that goes on behind a set of a condition.
+fn behind_condition(word: &str, kind: LineKind) -> Option<Place>
+    ensures { result ≡ behind_condition kind word.now }
+{
+    if is_junction(word) {
+        return Some(Place::Name(Part::Condition));
+    }
+    behind_entry(word, kind)
+}
+
+/// Whether a word stands between two sets of a condition.
+fn is_junction(word: &str) -> bool
+    ensures { result ≡ is_junction word.now }
+{
+    let word = word.as_bytes();
+    is_word(word, b"and") || is_word(word, b"or")
+}
+
 /// The place behind the name of a set. Words that begin an entry, or separate sets here, are no names.
-fn behind_name(word: &str, part: Part) -> Option<Place> {
-    match (word, part) {
-        ("needs" | "limits" | "favored" | "locked", _) => None,
-        ("|", Part::Union) => None,
-        ("if", Part::Union | Part::Condition) => None,
-        ("and" | "or", Part::Condition) => None,
-        _ => Some(Place::Range(part)),
+fn behind_name(word: &str, part: Part) -> Option<Place>
+    ensures { result ≡ behind_name part word.now }
+{
+    if is_keyword(word, part) {
+        None
+    } else {
+        Some(Place::Range(part))
+    }
+}
+
+/// Whether a word begins an entry, or ends a set that is a part of this.
+fn is_keyword(word: &str, part: Part) -> bool
+    ensures { result ≡ is_keyword part word.now }
+{
+    is_entry(word) || is_separator(word, part)
+}
+
+/// Whether a word ends a set that is a part of this.
+fn is_separator(word: &str, part: Part) -> bool
+    ensures { result ≡ is_separator part word.now }
+{
+    let bytes = word.as_bytes();
+    match part {
+        Part::Union => is_word(bytes, b"|") || is_word(bytes, b"if"),
+        Part::Condition => is_word(bytes, b"if") || is_junction(word),
+        Part::Limits => false,
     }
 }
 
 /// The place behind the range of a set, or what was expected in the range's stead.
-fn behind_range(range: Result<(u32, u32), BadRange>, part: Part) -> Result<Place, Expected> {
+fn behind_range(range: Result<(u32, u32), BadRange>, part: Part) -> Result<Place, Expected>
+    ensures { result ≡ behind_range part (result_err range) }
+{
     match range {
         Err(BadRange::NotARange) => Err(Expected::Range),
         Err(BadRange::Reversed) => Err(Expected::OrderedRange),
-        Ok(_) => Ok(match part {
-            Part::Union => Place::Union,
-            Part::Condition => Place::Condition,
-            Part::Limits => Place::Entry,
-        }),
+        Ok(_) => Ok(behind_set(part)),
+    }
+}
+
+/// The place behind a set.
+fn behind_set(part: Part) -> Place
+    ensures { result ≡ behind_set part }
+{
+    match part {
+        Part::Union => Place::Union,
+        Part::Condition => Place::Condition,
+        Part::Limits => Place::Entry,
     }
 }

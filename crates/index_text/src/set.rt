@@ -1,6 +1,7 @@
 //! Version sets of a line.
 ghost use Rattle.std.specs.Prelude.{◌≡◌, IfOk, option_map};
-ghost use Rattle.std.specs.Result.{result_ok};
+ghost use Rattle.std.specs.Result.{result_ok, result_err};
+ghost use Rattle.index_text.specs.Expected.{range_fault};
 ghost use Rattle.index_text.specs.Plain.{plain_set, plain_sets, plain_lists};
 ghost use Rattle.index_text.specs.PlainFormats.{plain_format};
 ghost use Rattle.index_text.specs.Sets.{texts, version_of, range_of, set_of, sets_of, alternatives_of};
@@ -41,13 +42,14 @@ pub(crate) enum BadRange {
     Reversed,
 }
 
-/// The bounds of `LOW..HIGH`, the lower one first.
-pub(crate) fn range(
+/// The bounds of a range `LOW..HIGH`, the lower one first.
+pub(crate) fn read_range(
     alloc: Global,
     format: &VersionFormat,
     word: &[u8],
 ) -> Result<Result<(u32, u32), BadRange>, AllocError>
-    ensures { IfOk result (λ found. result_ok found ≡ range_of (plain_format format.now) word.now) }
+    ensures is { IfOk result (λ found. result_ok found ≡ range_of (plain_format format.now) word.now) }
+    ensures fault { IfOk result (λ found. result_err found ≡ range_fault (plain_format format.now) word.now) }
 {
     let Some((low, high)) = split_at_dots(word) else {
         return Ok(Err(BadRange::NotARange));
@@ -73,10 +75,10 @@ pub(crate) fn read_set<'t>(
 ) -> Result<Option<Set<'t>>, AllocError>
     ensures { IfOk result (λ found. option_map plain_set found ≡ set_of (plain_format format.now) (texts words.now)) }
 {
-    let [name, bounds] = words else {
+    let [name, range] = words else {
         return Ok(None);
     };
-    let Ok((low, high)) = range(alloc, format, bounds.as_bytes())? else {
+    let Ok((low, high)) = read_range(alloc, format, range.as_bytes())? else {
         return Ok(None);
     };
     Ok(Some(Set {

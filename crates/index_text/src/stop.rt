@@ -1,7 +1,12 @@
 //! The first word of a line that can't stand there.
-ghost use Rattle.std.specs.Prelude.{◌≡◌, ◌≤◌, ◌+◌, not, false, length, IfOk, IfSome, is_some};
+ghost use Rattle.std.specs.Prelude.{◌≡◌, ◌≤◌, ◌+◌, not, false, length, drop, IfOk, IfSome, is_some};
 ghost use Rattle.std.specs.List.{list_all, prefix_len};
 ghost use Rattle.script_text.specs.Lines.{IsPrinted, is_printed};
+ghost use Rattle.script_text.specs.Words.{words as words_of};
+ghost use Rattle.index_text.specs.Expected.{expected_from, expected_in, expected_of_request, expected_of_version};
+ghost use Rattle.index_text.specs.Indexes.{words_in};
+ghost use Rattle.index_text.specs.Lines.{behind_format};
+ghost use Rattle.index_text.specs.PlainFormats.{plain_format};
 
 use crate::expected::Expected;
 use crate::format::VersionFormat;
@@ -28,6 +33,8 @@ pub(crate) fn line_stop(
     ensures within { IfOk result (λ stop. stop.left ≤ length line.now) }
     ensures unprinted { IfOk result (λ stop. list_all is_printed line.now ≡ false
         → stop.left + prefix_len is_printed line.now ≡ length line.now) }
+    ensures expected { IfOk result (λ stop.
+        stop.expected ≡ expected_in (plain_format format.now) kind (words_in line.now)) }
 {
     if let Some(left) = unprinted_length(line) {
         let expected = Expected::PrintedByte;
@@ -43,55 +50,69 @@ pub(crate) fn line_stop(
 /// Where words stop being a request.
 fn request_stop(alloc: Global, format: &VersionFormat, text: &[u8]) -> Result<Stop, AllocError>
     requires { IsPrinted text.now }
-    ensures { IfOk result (λ stop. stop.left ≤ length text.now) }
+    ensures within { IfOk result (λ stop. stop.left ≤ length text.now) }
+    ensures expected { IfOk result (λ stop.
+        stop.expected ≡ expected_of_request (plain_format format.now) (words_of text.now)) }
 {
-    match next_word(text) {
-        Some((word, rest)) if is_word(word, b"request") => {
-            entries_stop(
-                alloc,
-                format,
-                behind_format(format, rest),
-                LineKind::Request,
-            )
-        }
-        _ => {
-            let (left, expected) = (text.len(), Expected::RequestFirst);
-            Ok(Stop { left, expected })
-        }
+    let (left, expected) = (text.len(), Expected::RequestFirst);
+    let Some((word, rest)) = next_word(text) else {
+        return Ok(Stop { left, expected });
+    };
+    if !is_word(word, b"request") {
+        return Ok(Stop { left, expected });
     }
+    let rest = behind_format(format, rest);
+    entries_stop(alloc, format, rest, LineKind::Request)
 }
 
 /// What is behind `semver`, if versions are written so.
 fn behind_format<'t>(format: &VersionFormat, text: &'t [u8]) -> &'t [u8]
     ensures shorter { length result.now ≤ length text.now }
     ensures printed { IsPrinted text.now → IsPrinted result.now }
+    ensures words { words_of result.now ≡ behind_format (plain_format format.now) (words_of text.now) }
 {
-    match (format, next_word(text)) {
-        (VersionFormat::Semver(_), Some((_, rest))) => rest,
-        _ => text,
+    match format {
+        VersionFormat::Numbers => text,
+        VersionFormat::Semver(_) => behind_word(text),
+    }
+}
+
+/// What is behind the first word, if there is one.
+fn behind_word(text: &[u8]) -> &[u8]
+    ensures shorter { length result.now ≤ length text.now }
+    ensures printed { IsPrinted text.now → IsPrinted result.now }
+    ensures words { words_of result.now ≡ drop 1 (words_of text.now) }
+{
+    match next_word(text) {
+        Some((_, rest)) => rest,
+        None => text,
     }
 }
 
 /// Where words stop being a version.
 fn version_stop(alloc: Global, format: &VersionFormat, text: &[u8]) -> Result<Stop, AllocError>
     requires { IsPrinted text.now }
-    ensures { IfOk result (λ stop. stop.left ≤ length text.now) }
+    ensures within { IfOk result (λ stop. stop.left ≤ length text.now) }
+    ensures expected { IfOk result (λ stop.
+        stop.expected ≡ expected_of_version (plain_format format.now) (words_of text.now)) }
 {
     let Some((_, rest)) = next_word(text) else {
         let (left, expected) = (0, Expected::Name);
         return Ok(Stop { left, expected });
     };
     let rest = without_blanks(rest);
-    if let Some((word, entries)) = next_word(rest) {
-        if format.number(alloc, word)?.is_some() {
-            return entries_stop(alloc, format, entries, LineKind::Version);
-        }
-    }
     let (left, expected) = (rest.len(), Expected::Version);
-    Ok(Stop { left, expected })
+    let Some((word, entries)) = next_word(rest) else {
+        return Ok(Stop { left, expected });
+    };
+    match format.number(alloc, word)? {
+        Some(_) => entries_stop(alloc, format, entries, LineKind::Version),
+        None => Ok(Stop { left, expected }),
+    }
 }
 
 /// Where words stop being entries.
+#[tactic(auto, using(crate::proofs::StopLemmas::goes_on, crate::proofs::StopLemmas::stops))]
 fn entries_stop(
     alloc: Global,
     format: &VersionFormat,
@@ -99,7 +120,9 @@ fn entries_stop(
     kind: LineKind,
 ) -> Result<Stop, AllocError>
     requires { IsPrinted words.now }
-    ensures { IfOk result (λ stop. stop.left ≤ length words.now) }
+    ensures within { IfOk result (λ stop. stop.left ≤ length words.now) }
+    ensures expected { IfOk result (λ stop.
+        stop.expected ≡ expected_from (plain_format format.now) kind Place.First (words_of words.now)) }
 {
     let mut place = Place::First;
     let mut text = without_blanks(words);
