@@ -3,7 +3,7 @@ use Rattle.std.specs.Prelude.{ℕ, ◌-◌, ◌==◌, ◌||◌, ◌&&◌, Bool, 
 use Rattle.std.specs.Prelude.{option_and_then, option_map, slice_index_or, take, if◌then◌else◌}
 use Rattle.std.specs.List.{prefix_len}
 use Rattle.std.specs.Str.{bytes_eq}
-use Rattle.debian_text.specs.Words.{cut_at, trimmed, word_of}
+use Rattle.debian_text.specs.Words.{cut_at, trimmed, version_of, word_of}
 use Rattle.debian_text.specs.declared.relation.Operator.{Operator}
 use Rattle.debian_text.specs.declared.relation.Operator.TheVariants.{Earlier, EarlierOrEqual, Equal, LaterOrEqual}
 use Rattle.debian_text.specs.declared.relation.Operator.TheVariants.{Later}
@@ -35,7 +35,7 @@ operator_of sign =
 abbrev pub bound_signed : ℕ → List ℕ → Option BoundText
 bound_signed length text =
     option_and_then (λ operator. option_map (λ version. record { operator = operator; version = version })
-    (word_of (drop length text)))
+    (version_of (drop length text)))
     (operator_of (take length text))
 
 abbrev pub bound_of : List ℕ → Option BoundText

@@ -1,8 +1,8 @@
 -- Parts of a text.
-use Rattle.std.specs.Prelude.{ℕ, ◌+◌, ◌-◌, ◌==◌, ◌||◌, List, Option, None, Some, drop, length, option_map, take}
-use Rattle.std.specs.Prelude.{if◌then◌else◌}
-use Rattle.std.specs.Char.{is_ascii_whitespace}
-use Rattle.std.specs.List.{list_any, position, prefix_len, suffix_len}
+use Rattle.std.specs.Prelude.{ℕ, ◌+◌, ◌-◌, ◌==◌, ◌||◌, Bool, List, Option, None, Some, drop, length}
+use Rattle.std.specs.Prelude.{option_and_then, option_map, take, if◌then◌else◌}
+use Rattle.std.specs.Char.{is_ascii_alphanumeric, is_ascii_whitespace}
+use Rattle.std.specs.List.{list_all, list_any, position, prefix_len, suffix_len}
 
 -- what is before the first such byte, and what is behind it
 abbrev pub cut_at : ℕ → List ℕ → Option (List ℕ × List ℕ)
@@ -25,3 +25,14 @@ only_word text = if (length text == 0) || list_any is_ascii_whitespace text then
 -- the only word of a text
 abbrev pub word_of : List ℕ → Option (List ℕ)
 word_of text = only_word (trimmed text)
+
+-- a letter, a digit or one of `+-.:~`
+abbrev pub is_of_version : ℕ → Bool
+is_of_version c = is_ascii_alphanumeric c || (c == 43) || (c == 45) || (c == 46) || (c == 58) || (c == 126)
+
+abbrev pub only_version : List ℕ → Option (List ℕ)
+only_version word = if list_all is_of_version word then Some word else None
+
+-- the only word of a text, if it has no characters but those of versions
+abbrev pub version_of : List ℕ → Option (List ℕ)
+version_of text = option_and_then only_version (word_of text)

@@ -1,8 +1,8 @@
 //! Parts of a text.
 ghost use Rattle.std.specs.Char.{is_ascii_whitespace};
-ghost use Rattle.std.specs.List.{list_any, position};
+ghost use Rattle.std.specs.List.{list_all, list_any, position};
 ghost use Rattle.std.specs.Prelude.{◌≡◌, ◌<◌, ◌==◌, length, option_map, IfSome};
-ghost use Rattle.debian_text.specs.Words.{cut_at, trimmed, word_of};
+ghost use Rattle.debian_text.specs.Words.{cut_at, is_of_version, trimmed, version_of, word_of};
 
 /// What is before the first such byte, and what is behind it; none if there is no such byte.
 pub(crate) fn cut_at(text: &[u8], byte: u8) -> Option<(&[u8], &[u8])>
@@ -23,7 +23,7 @@ fn place_of(text: &[u8], byte: u8) -> Option<usize>
 }
 
 /// A text without white space at its ends.
-pub(crate) fn trimmed(text: &[u8]) -> &[u8]
+pub fn trimmed(text: &[u8]) -> &[u8]
     ensures { result.now ≡ trimmed text.now }
 {
     text.trim_ascii()
@@ -46,4 +46,37 @@ fn has_space(text: &[u8]) -> bool
     ensures { result ≡ list_any is_ascii_whitespace text.now }
 {
     text.iter().any(|b| b.is_ascii_whitespace())
+}
+
+/// The version that a text says: its only word, if it has no characters but those of versions.
+pub fn version(text: &[u8]) -> Option<&[u8]>
+    ensures { option_map (λ r. r.now) result ≡ version_of text.now }
+{
+    let Some(version) = word(text) else {
+        return None;
+    };
+    if is_version(version) {
+        Some(version)
+    } else {
+        None
+    }
+}
+
+/// Whether a text has no characters but those of versions.
+fn is_version(text: &[u8]) -> bool
+    ensures { result ≡ list_all is_of_version text.now }
+{
+    text.iter().all(|b| is_of_version(*b))
+}
+
+/// Whether a version may have the character.
+fn is_of_version(byte: u8) -> bool
+    ensures { result ≡ is_of_version byte }
+{
+    byte.is_ascii_alphanumeric()
+        || byte == b'+'
+        || byte == b'-'
+        || byte == b'.'
+        || byte == b':'
+        || byte == b'~'
 }

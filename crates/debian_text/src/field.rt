@@ -1,5 +1,5 @@
 //! Fields of a text.
-ghost use Rattle.std.specs.Prelude.{◌≡◌, ◌<◌, ◌∷◌, [], length, option_map, IfSome, MatchOption};
+ghost use Rattle.std.specs.Prelude.{◌≡◌, ◌<◌, ◌∷◌, [], length, option_map, MatchOption};
 ghost use Rattle.debian_text.specs.Fields.{fields, goes_on};
 ghost use Rattle.debian_text.specs.Words.{cut_at};
 
@@ -9,7 +9,7 @@ use crate::cuts::cut_at;
 /// line that ends a stanza.
 pub fn next_field(text: &[u8]) -> Option<(&[u8], &[u8])>
     ensures first { MatchOption result (fields text.now ≡ []) (λ r. fields text.now ≡ r.0.now ∷ fields r.1.now) }
-    ensures shorter { IfSome result (λ r. length r.1.now < length text.now) }
+    ensures shorter { MatchOption result (text.now ≡ []) (λ r. length r.1.now < length text.now) }
 {
     if text.is_empty() {
         return None;

@@ -9,6 +9,6 @@ mod cuts;
 mod field;
 mod relation;
 
-pub use cuts::word;
+pub use cuts::{trimmed, version, word};
 pub use field::{named_value, next_field};
 pub use relation::{Bound, Operator, Relation};

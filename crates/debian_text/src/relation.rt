@@ -4,7 +4,7 @@ ghost use Rattle.debian_text.specs.Plain.{plain_bound, plain_relation};
 ghost use Rattle.std.specs.List.{prefix_len};
 ghost use Rattle.debian_text.specs.Relations.{bound_in, bound_of, is_of_sign, operator_of, relation_named, relation_of};
 
-use crate::cuts::{cut_at, trimmed, word};
+use crate::cuts::{cut_at, trimmed, version, word};
 
 /// A package, and which of its versions.
 #[derive(Clone, Copy, Debug, PartialEq, Eq)]
@@ -98,7 +98,7 @@ fn bound_of(text: &[u8]) -> Option<Bound<'_>>
     let Some(operator) = operator_of(sign) else {
         return None;
     };
-    let Some(version) = word(rest) else {
+    let Some(version) = version(rest) else {
         return None;
     };
     Some(Bound { operator, version })
