@@ -1,11 +1,11 @@
 -- What an answer says. N are the names, S the solvables.
-use Rattle.std.specs.Prelude.{◌≡◌, true, All, List, map, take, ⊤}
+use Rattle.std.specs.Prelude.{◌≡◌, ℕ, ◌≤◌, true, All, List, length, map, take, ⊤}
 use Rattle.resolvo_pool.specs.Functions.{Provider}
 use Rattle.resolvo_pool.specs.Types.ConditionalRequirement.{ConditionalRequirement}
-use Rattle.solutions.specs.Needed.{IsNeeded}
+use Rattle.solutions.specs.Needed.{AreCaused, IsNeeded}
 use Rattle.solutions.specs.Reasons.{AreEnough, AreSo, NoReasonSpare}
 use Rattle.solutions.specs.Solutions.{IsSolution, IsUnsolvable}
-use Rattle.solutions.specs.Wishes.{IsBest, NoneSpare, rank}
+use Rattle.solutions.specs.Wishes.{AreGranted, IsBest, NoneSpare, rank}
 use Rattle.solutions.specs.declared.wish.Alternative.{Alternative}
 use Rattle.picking.specs.declared.finding.Answer.{Answer}
 use Rattle.picking.specs.declared.finding.Answer.TheVariants.{Picked, Unsolvable, Uncertified, StepsUsed, NotASolution}
@@ -28,6 +28,14 @@ IfUnsolvable Has (Uncertified refutation) = ⊤
 IfUnsolvable Has StepsUsed = ⊤
 IfUnsolvable Has NotASolution = ⊤
 
+-- the same, also if the check didn't certify that there is none
+abbrev pub IfRefuted : {N S A : Type 0} → (Refutation N S A → Type 0) → Answer N S A → Type 0
+IfRefuted Has (Picked choice) = ⊤
+IfRefuted Has (Unsolvable refutation) = Has refutation
+IfRefuted Has (Uncertified refutation) = Has refutation
+IfRefuted Has StepsUsed = ⊤
+IfRefuted Has NotASolution = ⊤
+
 module _ {N S A : Type 0} (p : Provider N S) (requested : List ConditionalRequirement) where
   -- what is picked is a solution
   abbrev pub PicksSolution : Answer N S A → Type 0
@@ -45,6 +53,18 @@ module _ {N S A : Type 0} (p : Provider N S) (requested : List ConditionalRequir
     -- no solution is better, by as many wishes as it says
     abbrev pub PicksBest : Answer N S A → Type 0
     PicksBest = IfPicked (λ choice. IsBest p requested (take choice.best_up_to wishes) choice.solvables.items)
+
+    -- it says so of no more wishes than there are, and of all before the first whose first alternative isn't so
+    abbrev pub PicksWithin : Answer N S A → Type 0
+    PicksWithin = IfPicked (λ choice. choice.best_up_to ≤ length wishes)
+
+    abbrev pub PicksGranted : Answer N S A → Type 0
+    PicksGranted = IfPicked (λ choice. (first : ℕ) → first ≤ length wishes →
+        AreGranted p choice.solvables.items (take first wishes) → first ≤ choice.best_up_to)
+
+    -- each solvable is picked for the cause at its place
+    abbrev pub PicksCaused : Answer N S A → Type 0
+    PicksCaused = IfPicked (λ choice. AreCaused p requested wishes choice.solvables.items choice.causes.items)
 
     -- the request, a wish or what is picked needs each solvable
     abbrev pub PicksNeeded : Answer N S A → Type 0
@@ -65,4 +85,4 @@ GivesEnough p = IfUnsolvable (λ refutation. AreEnough p refutation.reasons.item
 -- if it says that none of the reasons is spare, none is
 abbrev pub GivesNoneSpare : {N S A : Type 0} → Provider N S → Answer N S A → Type 0
 GivesNoneSpare p =
-    IfUnsolvable (λ refutation. refutation.none_spare ≡ true → NoReasonSpare p refutation.reasons.items)
+    IfRefuted (λ refutation. refutation.none_spare ≡ true → NoReasonSpare p refutation.reasons.items)

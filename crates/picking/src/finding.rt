@@ -1,8 +1,9 @@
 //! The search, and the check of what it found.
 ghost use Rattle.std.specs.Prelude.{◌≡◌, true, All, IfOk};
 ghost use Rattle.picking.specs.Answers.{FindsNone, GivesEnough, GivesNoneSpare, GivesSo};
-ghost use Rattle.picking.specs.Answers.{PicksBest, PicksNeeded, PicksNoneSpare, PicksRanked, PicksSolution};
-ghost use Rattle.solutions.specs.Needed.{IsNeeded};
+ghost use Rattle.picking.specs.Answers.{PicksBest, PicksCaused, PicksGranted, PicksNeeded, PicksNoneSpare};
+ghost use Rattle.picking.specs.Answers.{PicksRanked, PicksSolution, PicksWithin};
+ghost use Rattle.solutions.specs.Needed.{AreCaused, IsNeeded};
 ghost use Rattle.solutions.specs.Newest.{newest};
 ghost use Rattle.solutions.specs.Reasons.{AreEnough, AreSo};
 ghost use Rattle.solutions.specs.Solutions.{IsSolution};
@@ -74,6 +75,12 @@ pub fn pick<D: DependencyProvider>(
         (newest (⟦<D as ProviderFunctions>⟧.functions provider.now) requested.now)) }
     ensures best { IfOk result (PicksBest (⟦<D as ProviderFunctions>⟧.functions provider.now) requested.now
         (newest (⟦<D as ProviderFunctions>⟧.functions provider.now) requested.now)) }
+    ensures within { IfOk result (PicksWithin (⟦<D as ProviderFunctions>⟧.functions provider.now) requested.now
+        (newest (⟦<D as ProviderFunctions>⟧.functions provider.now) requested.now)) }
+    ensures granted { IfOk result (PicksGranted (⟦<D as ProviderFunctions>⟧.functions provider.now) requested.now
+        (newest (⟦<D as ProviderFunctions>⟧.functions provider.now) requested.now)) }
+    ensures caused { IfOk result (PicksCaused (⟦<D as ProviderFunctions>⟧.functions provider.now) requested.now
+        (newest (⟦<D as ProviderFunctions>⟧.functions provider.now) requested.now)) }
     ensures needed { IfOk result (PicksNeeded (⟦<D as ProviderFunctions>⟧.functions provider.now) requested.now
         (newest (⟦<D as ProviderFunctions>⟧.functions provider.now) requested.now)) }
     ensures none_spare { IfOk result (PicksNoneSpare (⟦<D as ProviderFunctions>⟧.functions provider.now) requested.now
@@ -105,6 +112,12 @@ pub fn pick_by_wishes<D: DependencyProvider>(
         (alternatives_of request.now.wishes.now)) }
     ensures best { IfOk result (PicksBest (⟦<D as ProviderFunctions>⟧.functions provider.now)
         request.now.requirements.now (alternatives_of request.now.wishes.now)) }
+    ensures within { IfOk result (PicksWithin (⟦<D as ProviderFunctions>⟧.functions provider.now)
+        request.now.requirements.now (alternatives_of request.now.wishes.now)) }
+    ensures granted { IfOk result (PicksGranted (⟦<D as ProviderFunctions>⟧.functions provider.now)
+        request.now.requirements.now (alternatives_of request.now.wishes.now)) }
+    ensures caused { IfOk result (PicksCaused (⟦<D as ProviderFunctions>⟧.functions provider.now)
+        request.now.requirements.now (alternatives_of request.now.wishes.now)) }
     ensures needed { IfOk result (PicksNeeded (⟦<D as ProviderFunctions>⟧.functions provider.now)
         request.now.requirements.now (alternatives_of request.now.wishes.now)) }
     ensures none_spare { IfOk result (PicksNoneSpare (⟦<D as ProviderFunctions>⟧.functions provider.now)
@@ -119,7 +132,7 @@ pub fn pick_by_wishes<D: DependencyProvider>(
     let task = Task {
         request,
         steps,
-        asked: None,
+        explained_wish: None,
     };
     match search_for(alloc, Borrowed::new(provider), &task)? {
         SearchEnd::Picked(found) => checked(alloc, provider, request, found),
@@ -141,6 +154,12 @@ fn checked<D: DependencyProvider>(
         (alternatives_of request.now.wishes.now)) }
     ensures best { IfOk result (PicksBest (⟦<D as ProviderFunctions>⟧.functions provider.now)
         request.now.requirements.now (alternatives_of request.now.wishes.now)) }
+    ensures within { IfOk result (PicksWithin (⟦<D as ProviderFunctions>⟧.functions provider.now)
+        request.now.requirements.now (alternatives_of request.now.wishes.now)) }
+    ensures granted { IfOk result (PicksGranted (⟦<D as ProviderFunctions>⟧.functions provider.now)
+        request.now.requirements.now (alternatives_of request.now.wishes.now)) }
+    ensures caused { IfOk result (PicksCaused (⟦<D as ProviderFunctions>⟧.functions provider.now)
+        request.now.requirements.now (alternatives_of request.now.wishes.now)) }
     ensures needed { IfOk result (PicksNeeded (⟦<D as ProviderFunctions>⟧.functions provider.now)
         request.now.requirements.now (alternatives_of request.now.wishes.now)) }
     ensures none_spare { IfOk result (PicksNoneSpare (⟦<D as ProviderFunctions>⟧.functions provider.now)
@@ -152,7 +171,7 @@ fn checked<D: DependencyProvider>(
     ensures reasons_enough { IfOk result (GivesEnough (⟦<D as ProviderFunctions>⟧.functions provider.now)) }
     ensures no_reason_spare { IfOk result (GivesNoneSpare (⟦<D as ProviderFunctions>⟧.functions provider.now)) }
 {
-    if !is_fine(alloc, provider, request, &found)? {
+    if !is_solution_without_spare(alloc, provider, request, &found)? {
         return Ok(Answer::NotASolution);
     }
     let Found {
@@ -172,7 +191,7 @@ fn checked<D: DependencyProvider>(
 }
 
 /// Whether what was found is a solution in which each solvable is needed, and none can be left out.
-fn is_fine<D: DependencyProvider>(
+fn is_solution_without_spare<D: DependencyProvider>(
     alloc: D::Alloc,
     provider: &D,
     request: &Request<D::SolvableId, D::Alloc>,
@@ -180,6 +199,9 @@ fn is_fine<D: DependencyProvider>(
 ) -> Result<bool, StoreError>
     ensures solution { IfOk result (λ yes. yes ≡ true → IsSolution
         (⟦<D as ProviderFunctions>⟧.functions provider.now) request.now.requirements.now found.now.solvables.items) }
+    ensures caused { IfOk result (λ yes. yes ≡ true → AreCaused
+        (⟦<D as ProviderFunctions>⟧.functions provider.now) request.now.requirements.now
+        (alternatives_of request.now.wishes.now) found.now.solvables.items found.now.causes.items) }
     ensures needed { IfOk result (λ yes. yes ≡ true → All (IsNeeded
         (⟦<D as ProviderFunctions>⟧.functions provider.now) request.now.requirements.now
         (alternatives_of request.now.wishes.now) found.now.solvables.items) found.now.solvables.items) }
@@ -199,9 +221,28 @@ fn is_fine<D: DependencyProvider>(
     }
 }
 
-/// Why the best solution is no better by the wish at this place, beside the wishes before: what rules out its better
-/// alternatives. Nothing if it has the first alternative, or if the steps are too few. That is not proved.
+/// Why no solution that keeps the ranks of the earlier wishes does better by the wish at this place: what rules out its
+/// better alternatives. Empty if the wish has its first alternative, or if the steps are too few. The reasons are true;
+/// no clause says that they are enough.
 pub fn why_not<D: DependencyProvider>(
+    alloc: D::Alloc,
+    provider: &D,
+    request: &Request<D::SolvableId, D::Alloc>,
+    place: usize,
+    steps: u64,
+) -> Result<Vec<Reason<D::NameId, D::SolvableId>, D::Alloc>, StoreError>
+    ensures { IfOk result (λ reasons. AreSo (⟦<D as ProviderFunctions>⟧.functions provider.now)
+        request.now.requirements.now reasons.items) }
+{
+    let reasons = found_reasons(alloc, provider, request, place, steps)?;
+    if are_so(alloc, provider, request.requirements, &reasons)? {
+        return Ok(reasons);
+    }
+    Ok(Vec::new(alloc))
+}
+
+/// The reasons that the search finds. They aren't checked.
+fn found_reasons<D: DependencyProvider>(
     alloc: D::Alloc,
     provider: &D,
     request: &Request<D::SolvableId, D::Alloc>,
@@ -211,7 +252,7 @@ pub fn why_not<D: DependencyProvider>(
     let task = Task {
         request,
         steps,
-        asked: Some(place),
+        explained_wish: Some(place),
     };
     match search_for(alloc, Borrowed::new(provider), &task)? {
         SearchEnd::Picked(found) => Ok(found.reasons),
@@ -232,6 +273,12 @@ fn refuted<D: DependencyProvider>(
     ensures ranks { IfOk result (PicksRanked (⟦<D as ProviderFunctions>⟧.functions provider.now)
         (alternatives_of request.now.wishes.now)) }
     ensures best { IfOk result (PicksBest (⟦<D as ProviderFunctions>⟧.functions provider.now)
+        request.now.requirements.now (alternatives_of request.now.wishes.now)) }
+    ensures within { IfOk result (PicksWithin (⟦<D as ProviderFunctions>⟧.functions provider.now)
+        request.now.requirements.now (alternatives_of request.now.wishes.now)) }
+    ensures granted { IfOk result (PicksGranted (⟦<D as ProviderFunctions>⟧.functions provider.now)
+        request.now.requirements.now (alternatives_of request.now.wishes.now)) }
+    ensures caused { IfOk result (PicksCaused (⟦<D as ProviderFunctions>⟧.functions provider.now)
         request.now.requirements.now (alternatives_of request.now.wishes.now)) }
     ensures needed { IfOk result (PicksNeeded (⟦<D as ProviderFunctions>⟧.functions provider.now)
         request.now.requirements.now (alternatives_of request.now.wishes.now)) }

@@ -96,7 +96,7 @@ fn search_among<D: DependencyProvider + Copy>(
     let task = Task {
         request: &request,
         steps,
-        asked: None,
+        explained_wish: None,
     };
     let store = ClauseStore::new(alloc, provider)?;
     let packages = ReasonPackages::new(alloc, provider, reasons)?;

@@ -46,7 +46,7 @@ pub(crate) struct Found<N, S, A: Allocator> {
     pub(crate) breaks: Vec<Cause, A>,
     /// That no solution is better by the wishes; nothing if the steps were too few to search for one.
     pub(crate) shown: Shown<N, S, A>,
-    /// Why none is better by the wish that was asked about.
+    /// Why none is better by the wish that is explained.
     pub(crate) reasons: Vec<Reason<N, S>, A>,
     /// How many steps are left.
     pub(crate) steps: u64,
@@ -58,8 +58,8 @@ pub(crate) struct Task<'r, S, A: Allocator> {
     pub(crate) request: &'r Request<'r, S, A>,
     /// How many steps may be made.
     pub(crate) steps: u64,
-    /// The place of a wish that is asked about.
-    pub(crate) asked: Option<usize>,
+    /// The place of the wish that is explained.
+    pub(crate) explained_wish: Option<usize>,
 }
 
 /// What comes of a step.
@@ -194,7 +194,7 @@ impl<T: SearchStore + Drop, P: PackageSource<T::NameId, T::SolvableId, T::Alloc>
                 self.wishes.note(&self.progress.store)?;
             }
             if !step.is_open() && !self.wishes.activate() {
-                return self.end(last, task.asked, left);
+                return self.end(last, task.explained_wish, left);
             }
             if let Step::Solved = step {
                 self.begin_anew();
@@ -210,7 +210,7 @@ impl<T: SearchStore + Drop, P: PackageSource<T::NameId, T::SolvableId, T::Alloc>
     fn end(
         &mut self,
         last: Option<Found<T::NameId, T::SolvableId, T::Alloc>>,
-        asked: Option<usize>,
+        explained_wish: Option<usize>,
         steps: u64,
     ) -> Result<SearchEnd<T::NameId, T::SolvableId, T::Alloc>> {
         let Some(found) = last else {
@@ -228,7 +228,7 @@ impl<T: SearchStore + Drop, P: PackageSource<T::NameId, T::SolvableId, T::Alloc>
             causes,
             breaks,
             shown: self.shown()?,
-            reasons: self.reasons(asked)?,
+            reasons: self.reasons(explained_wish)?,
             steps,
         }))
     }
@@ -242,9 +242,9 @@ impl<T: SearchStore + Drop, P: PackageSource<T::NameId, T::SolvableId, T::Alloc>
     /// Why none is better by the wish at a place.
     fn reasons(
         &self,
-        asked: Option<usize>,
+        explained_wish: Option<usize>,
     ) -> Result<Vec<Reason<T::NameId, T::SolvableId>, T::Alloc>> {
-        let Some(place) = asked else {
+        let Some(place) = explained_wish else {
             return Ok(Vec::new(self.progress.alloc));
         };
         let values = self.wishes.false_ones(&self.progress.store, place);

@@ -15,7 +15,7 @@ use Rattle.solutions.specs.Clauses.{AreSatisfied, AreTrue, Replayed, has_true, i
 use Rattle.solutions.specs.Settled.{AreSameUpTo, IsUnbeaten, first_true, first_trues}
 use Rattle.solutions.specs.Solutions.{IsSolution}
 use Rattle.solutions.specs.Truth.{AreStillSatisfied, truth}
-use Rattle.solutions.specs.Wishes.{IsBest, alternatives_of, before_true, is_so, rank}
+use Rattle.solutions.specs.Wishes.{AreGranted, IsBest, alternatives_of, before_true, is_so, rank}
 use Rattle.solutions.specs.declared.wish.Wish.{Wish}
 use Rattle.solutions.specs.declared.literal.Fact.{Fact}
 use Rattle.solutions.specs.declared.literal.Fact.TheVariants.{Picked}
@@ -168,6 +168,29 @@ module _ {N S : Type 0} (p : Provider N S) where
     best_shown count n first ranks is rest ranked within unbeaten solution = best_by n solution (λ other its.
         subst (λ rs. IsUnbeaten n rs (map (rank p other) wishes)) ranked
         (unbeaten_whole count n first ranks (map (rank p other) wishes) is rest within (unbeaten other its)))
+
+    -- ranks of 0 can't be beaten
+    pub best_granted : (n : ℕ) (ranks : List ℕ) → ranks ≡ map (rank p picked) wishes → ((place : ℕ) → place < n → slice_index ranks place ≡ 0)
+        → IsSolution p requested picked → IsBest p requested (take n wishes) picked
+    best_granted n ranks ranked zeros solution = best_by n solution (λ other its place less at.
+        let none : slice_index (map (rank p picked) wishes) place ≡ 0 = subst (λ rs. slice_index rs place ≡ 0) ranked (zeros place less) in
+        omega arith)
+
+    -- the first wishes whose ranks are 0 are no more than these, where the next rank isn't 0
+    pub granted_within : (first count : ℕ) (ranks : List ℕ) → ranks ≡ map (rank p picked) wishes → first ≤ length wishes
+        → (count < length ranks → slice_index ranks count ≡ 0 → ⊥) → AreGranted p picked (take first wishes) → first ≤ count
+    granted_within first count ranks ranked within ends granted = ⊎_elim
+        (λ less.
+        let size : length ranks ≡ length wishes = ap length ranked ∙ length-map wishes (rank p picked) in
+        let taken : length (take first wishes) ≡ min first (length wishes) = length-take first wishes in
+        let zero : rank p picked (get_or (take first wishes) count []) ≡ 0 =
+        All-get_or (λ (w : List (Alternative S)). rank p picked w ≡ 0) (take first wishes) count [] (omega arith) granted in
+        let same : get_or (take first wishes) count [] ≡ get_or wishes count [] = get_or-take first wishes count [] less in
+        let at : slice_index ranks count ≡ 0 =
+        ap (λ rs. slice_index rs count) ranked ∙ get_or-map (rank p picked) wishes count [] 0 (omega arith) ∙ ap (rank p picked) (sym same) ∙ zero in
+        absurd (ends (omega arith) at))
+        (λ past. past)
+        (cases_lt count first)
 
 -- what is settled of all assignments, of solutions
 pub unbeaten_solutions : {N S A : Type 0} (p : Provider N S) → (requested : List ConditionalRequirement) (wishes : List (List (Alternative S)))

@@ -1,7 +1,10 @@
 -- Why solvables are needed.
 use Rattle.std.proofs.Common.{◌≡◌, ◌∙◌, ℕ, ◌<◌, ◌≤◌, Bool, true, false, ◌&&◌, List, length, map, take, drop, get_or, ap, refl, sym, subst, true≢false}
+use mathlib.Core.Logic.{⊎_elim}
 use Rattle.std.specs.Bool.{Decides}
 use Rattle.std.specs.List.{All, Any, Contains, list_any}
+use Rattle.std.proofs.Common.{◌+◌, arith}
+use Rattle.std.proofs.lemmas.Bool.{cases_lt}
 use Rattle.std.proofs.lemmas.List.{take-append-drop, take_all}
 use Rattle.std.proofs.lemmas.List.Elements.{Contains-append_left, Contains-get_or}
 use Rattle.std.proofs.lemmas.List.Folds.{Any-from_list_any}
@@ -9,7 +12,7 @@ use Rattle.std.proofs.lemmas.Option.{get_or_from_slice_get, slice_get-map, slice
 use Rattle.std.specs.Prelude.{Some, option_map, slice_get}
 use Rattle.resolvo_pool.specs.Functions.{Provider}
 use Rattle.resolvo_pool.specs.Types.ConditionalRequirement.{ConditionalRequirement}
-use Rattle.solutions.specs.Needed.{IsCausedBy, IsNeeded, IsWishedAt, Offers, requested, required, wished}
+use Rattle.solutions.specs.Needed.{AreCaused, IsCausedBy, IsNeeded, IsWishedAt, Offers, requested, required, wished}
 use Rattle.solutions.specs.Solutions.{is_among}
 use Rattle.solutions.specs.Wishes.{alternatives_of}
 use Rattle.solutions.specs.declared.needed.Cause.{Cause}
@@ -74,3 +77,30 @@ needed_by p requirements wishes picked place before (Required k) solvable is =
     let needed : IsNeeded p requirements wishes picked parent =
     subst (IsNeeded p requirements wishes picked) at (before k parent within) in
     required solvable parent among needed is.2
+
+module _ {N S : Type 0} (p : Provider N S) (requirements : List ConditionalRequirement) (wishes : List (List (Alternative S))) (picked : List S)
+    (causes : List Cause) where
+  -- the one at this place has its cause
+  abbrev pub IsCausedAt : ℕ → S → Type 0
+  IsCausedAt place solvable = (cause : Cause) × (slice_get causes place ≡ Some cause) ×
+      IsCausedBy p (is_among p picked) requirements wishes (take place picked) cause solvable
+
+  -- those before this place have theirs
+  abbrev pub AreCausedBefore : ℕ → Type 0
+  AreCausedBefore count = (place : ℕ) (solvable : S) → place < count → slice_get picked place ≡ Some solvable → IsCausedAt place solvable
+
+  -- one more of them
+  pub caused_next : (i : ℕ) (x : S) → slice_get picked i ≡ Some x → IsCausedAt i x → AreCausedBefore i → AreCausedBefore (i + 1)
+  caused_next i x at is before place y less got = ⊎_elim
+      (λ under. before place y under got)
+      (λ over.
+      let here : i ≡ place = omega arith in
+      let same : x ≡ y = sym (get_or_from_slice_get picked i x x at) ∙ ap (λ k. get_or picked k x) here ∙ get_or_from_slice_get picked place y x got in
+      subst (λ k. IsCausedAt k y) here (subst (IsCausedAt i) same is))
+      (cases_lt place i)
+
+  -- all of them have
+  pub caused_all : (i : ℕ) → length picked ≤ i → AreCausedBefore i → AreCaused p requirements wishes picked causes
+  caused_all i end before place y got =
+      let within = slice_get_within picked place y got in
+      before place y (omega arith) got

@@ -1,5 +1,5 @@
 -- Why a solvable is picked. N are the names, S the solvables.
-use Rattle.std.specs.Prelude.{◌≡◌, ℕ, Bool, true, ◌&&◌, Any, Contains, List, Option, None, Some, slice_get, ⊤}
+use Rattle.std.specs.Prelude.{◌≡◌, ℕ, Bool, true, ◌&&◌, Any, Contains, List, Option, None, Some, slice_get, take, ⊤}
 use Rattle.std.specs.List.{list_any}
 use Rattle.resolvo_ids.specs.Types.VersionSetId.{VersionSetId}
 use Rattle.resolvo_pool.specs.Dependencies.{Needs, Known, Unknown}
@@ -62,6 +62,13 @@ module _ {N S : Type 0} (p : Provider N S) (is_picked : S → Bool) where
   IsCausedBy requested wishes before (Wished place) solvable = IsWishedAt wishes place solvable
   IsCausedBy requested wishes before (Required place) solvable =
       (parent : S) × (slice_get before place ≡ Some parent) × IsOfferedByNeeds (p.answers.needs parent) solvable
+
+-- each solvable is picked for the cause at its place; one that another solvable requires comes after that one
+abbrev pub AreCaused : {N S : Type 0} → Provider N S → List ConditionalRequirement → List (List (Alternative S)) →
+    (picked : List S) → List Cause → Type 0
+AreCaused {N} {S} p requested wishes picked causes = (place : ℕ) (solvable : S) →
+    slice_get picked place ≡ Some solvable → (cause : Cause) × (slice_get causes place ≡ Some cause) ×
+    IsCausedBy p (is_among p picked) requested wishes (take place picked) cause solvable
 
 -- why a solvable is picked: the request offers it, or a wish has it, or a picked one, which is needed itself, needs it
 pub data IsNeeded {N S : Type 0} (p : Provider N S) (requested : List ConditionalRequirement)

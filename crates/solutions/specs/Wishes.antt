@@ -27,6 +27,10 @@ module _ {N S : Type 0} (p : Provider N S) where
   abbrev pub rank : List S → List (Alternative S) → ℕ
   rank picked wish = before_true (map (is_so picked) wish)
 
+  -- of each of these wishes the first alternative is so, if it has any
+  abbrev pub AreGranted : List S → List (List (Alternative S)) → Type 0
+  AreGranted picked wishes = All (λ wish. rank picked wish ≡ 0) wishes
+
   -- two choices have the same rank by each of these wishes
   abbrev pub AreRanksSame : (picked other : List S) → List (List (Alternative S)) → Type 0
   AreRanksSame picked other wishes = All (λ wish. rank picked wish ≡ rank other wish) wishes

@@ -1,11 +1,11 @@
 //! For how many wishes no solution is better.
-ghost use Rattle.std.specs.Prelude.{◌≡◌, ℕ, ◌+◌, ◌≤◌, List, [], length, map, take, slice_index, IfOk};
+ghost use Rattle.std.specs.Prelude.{◌≡◌, ℕ, ◌+◌, ◌<◌, ◌≤◌, List, [], length, map, take, slice_index, IfOk};
 ghost use Rattle.solutions.specs.Settled.{AreSameUpTo, IsUnbeaten, first_trues};
 ghost use Rattle.solutions.specs.Clauses.{is_true};
 ghost use Rattle.solutions.specs.Reasons.{AreSo};
 ghost use Rattle.solutions.specs.Solutions.{IsSolution};
 ghost use Rattle.solutions.specs.Truth.{AreStillSatisfied, truth};
-ghost use Rattle.solutions.specs.Wishes.{IsBest, alternatives_of, is_so, rank};
+ghost use Rattle.solutions.specs.Wishes.{AreGranted, IsBest, alternatives_of, is_so, rank};
 
 use crate::atoms::Atoms;
 use crate::clauses::Theory;
@@ -21,7 +21,7 @@ use resolvo_ids::StoreError;
 use resolvo_pool::{ConditionalRequirement, DependencyProvider, ProviderFunctions};
 
 /// For how many of the wishes, from the first on, what is picked is the best solution, if it is one: as far as the
-/// evidence shows. Without evidence these are the wishes up to the first whose first alternative isn't so.
+/// evidence shows. These are at least the wishes before the first whose first alternative isn't so.
 ///
 /// Refused `UnknownId` if a wish has a solvable that the provider doesn't know. The provider is queried after each
 /// learnt clause whether to stop.
@@ -35,20 +35,42 @@ pub fn best_up_to<D: DependencyProvider>(
     picked: &[D::SolvableId],
     evidence: &Evidence<D::NameId, D::SolvableId, D::Alloc>,
 ) -> Result<usize, StoreError>
-    ensures { IfOk result (λ count. IsSolution (⟦<D as ProviderFunctions>⟧.functions provider.now)
+    ensures best { IfOk result (λ count. IsSolution (⟦<D as ProviderFunctions>⟧.functions provider.now)
         request.now.requirements.now picked.now → IsBest (⟦<D as ProviderFunctions>⟧.functions provider.now)
         request.now.requirements.now (take count (alternatives_of request.now.wishes.now)) picked.now) }
+    ensures within { IfOk result (λ count. count ≤ length (alternatives_of request.now.wishes.now)) }
+    ensures granted { IfOk result (λ count. (first : ℕ) → first ≤ length (alternatives_of request.now.wishes.now) →
+        AreGranted (⟦<D as ProviderFunctions>⟧.functions provider.now) picked.now
+        (take first (alternatives_of request.now.wishes.now)) → first ≤ count) }
 {
     let ranks = ranks(alloc, provider, request.wishes, picked)?;
     let beatable = beatable(&ranks);
     if beatable.is_empty() {
         return Ok(request.wishes.len());
     }
-    let count = unbeaten(alloc, provider, request, beatable, evidence)?;
-    if count < beatable.len() {
-        return Ok(count);
+    let shown = unbeaten(alloc, provider, request, beatable, evidence)?;
+    if shown >= beatable.len() {
+        return Ok(request.wishes.len());
     }
-    Ok(request.wishes.len())
+    let granted = granted(&ranks);
+    if shown < granted {
+        return Ok(granted);
+    }
+    Ok(shown)
+}
+
+/// How many ranks are 0, from the first on.
+fn granted(ranks: &[usize]) -> usize
+    ensures within { result ≤ length ranks.now }
+    ensures zeros { (place : ℕ) → place < result → slice_index ranks.now place ≡ 0 }
+    ensures ends { result < length ranks.now → slice_index ranks.now result ≡ 0 → ⊥ }
+{
+    for (place, rank) in ranks.iter().enumerate() {
+        if *rank != 0 {
+            return place;
+        }
+    }
+    ranks.len()
 }
 
 /// The ranks up to the last that isn't 0: a rank 0 can't be beaten.

@@ -1,7 +1,7 @@
 //! Whether what is picked is needed.
 ghost use Rattle.std.specs.Prelude.{◌≡◌, ◌&&◌, ◌<◌, true, Some, All, IfOk, length, slice_get, take};
 ghost use Rattle.std.specs.List.{list_any};
-ghost use Rattle.solutions.specs.Needed.{IsCausedBy, IsNeeded, IsOfferedAt, IsOfferedByNeeds, IsWishedAt};
+ghost use Rattle.solutions.specs.Needed.{AreCaused, IsCausedBy, IsNeeded, IsOfferedAt, IsOfferedByNeeds, IsWishedAt};
 ghost use Rattle.solutions.specs.Selections.{is_kept};
 ghost use Rattle.solutions.specs.Wishes.{alternatives_of};
 
@@ -33,7 +33,9 @@ pub fn are_needed<D: DependencyProvider>(
     picked: &[D::SolvableId],
     causes: &[Cause],
 ) -> Result<bool, StoreError>
-    ensures { IfOk result (λ yes. yes ≡ true → All (IsNeeded (⟦<D as ProviderFunctions>⟧.functions provider.now)
+    ensures caused { IfOk result (λ yes. yes ≡ true → AreCaused (⟦<D as ProviderFunctions>⟧.functions provider.now)
+        request.now.requirements.now (alternatives_of request.now.wishes.now) picked.now causes.now) }
+    ensures needed { IfOk result (λ yes. yes ≡ true → All (IsNeeded (⟦<D as ProviderFunctions>⟧.functions provider.now)
         request.now.requirements.now (alternatives_of request.now.wishes.now) picked.now) picked.now) }
 {
     let selection = select(alloc, provider, picked)?;

@@ -84,9 +84,9 @@ const UNSOLVABLE: &str = "\
     older 1\n\
     idle 1\n";
 
-/// Shows that the check queries the three that reasons name, of the six that the search queried. Of the six reasons none
-/// is spare: the searches that show this query no dependencies, and the candidates of two or three packages each, which
-/// are 16 questions; one of them has a conflict.
+/// Shows that the check queries the three that reasons name, of the six that the search queried. Of the six reasons
+/// none is spare: the searches that show this query no dependencies, and the candidates of two or three packages each,
+/// which are 16 queries; one of them has a conflict.
 #[test]
 fn the_check_queries_what_is_in_the_reasons(rt: HostRuntime) -> Result<(), Fail> {
     let seen = search_text(rt.alloc(), UNSOLVABLE, AMPLE)?;

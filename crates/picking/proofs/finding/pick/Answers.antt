@@ -3,7 +3,7 @@ use Rattle.std.specs.Prelude.{IfOk}
 use Rattle.resolvo_pool.specs.Functions.{Provider, gathered}
 use Rattle.solutions.specs.Wishes.{alternatives_of}
 use Rattle.solutions.specs.declared.wish.Alternative.{Alternative}
-use Rattle.picking.specs.Answers.{PicksBest, PicksNeeded, PicksNoneSpare, PicksRanked}
+use Rattle.picking.specs.Answers.{PicksBest, PicksCaused, PicksGranted, PicksNeeded, PicksNoneSpare, PicksRanked, PicksWithin}
 use Rattle.picking.proofs.finding.pick.Given.{Over}
 use Rattle.picking.proofs.finding.pick.Goals as goal
 
@@ -35,3 +35,21 @@ returns-clause-none_spare g c =
     let p = provided g c.args.provider.now in
     subst (λ (wishes : List (List (Alternative g.row.D-SolvableId.Denot))). IfOk c.pick_by_wishes.result (PicksNoneSpare p c.args.requested.now wishes))
     (ap alternatives_of c.deref.ensures.value ∙ c.in_ok-wishes.ensures) c.pick_by_wishes.ensures.none_spare
+
+pub returns-clause-within : goal.returns-clause-within
+returns-clause-within g c =
+    let p = provided g c.args.provider.now in
+    subst (λ (wishes : List (List (Alternative g.row.D-SolvableId.Denot))). IfOk c.pick_by_wishes.result (PicksWithin p c.args.requested.now wishes))
+    (ap alternatives_of c.deref.ensures.value ∙ c.in_ok-wishes.ensures) c.pick_by_wishes.ensures.within
+
+pub returns-clause-granted : goal.returns-clause-granted
+returns-clause-granted g c =
+    let p = provided g c.args.provider.now in
+    subst (λ (wishes : List (List (Alternative g.row.D-SolvableId.Denot))). IfOk c.pick_by_wishes.result (PicksGranted p c.args.requested.now wishes))
+    (ap alternatives_of c.deref.ensures.value ∙ c.in_ok-wishes.ensures) c.pick_by_wishes.ensures.granted
+
+pub returns-clause-caused : goal.returns-clause-caused
+returns-clause-caused g c =
+    let p = provided g c.args.provider.now in
+    subst (λ (wishes : List (List (Alternative g.row.D-SolvableId.Denot))). IfOk c.pick_by_wishes.result (PicksCaused p c.args.requested.now wishes))
+    (ap alternatives_of c.deref.ensures.value ∙ c.in_ok-wishes.ensures) c.pick_by_wishes.ensures.caused

@@ -23,3 +23,8 @@ pub returns-then-is_shown-clause-no_reason_spare : goal.returns-then-is_shown-cl
 returns-then-is_shown-clause-no_reason_spare g c =
     let p = provided g c.args.provider.now in
     λ yes. subst (NoReasonSpare p) c.deref.ensures.value (c.in_ok-none_spare.ensures yes)
+
+pub returns-clause-no_reason_spare : goal.returns-clause-no_reason_spare
+returns-clause-no_reason_spare g c =
+    let p = provided g c.args.provider.now in
+    λ yes. subst (NoReasonSpare p) c.deref.ensures.value (c.in_ok-none_spare.ensures yes)

@@ -1,15 +1,17 @@
-use Rattle.std.proofs.Common.{◌≡◌, true, rules, subst, take}
+use Rattle.std.proofs.Common.{◌≡◌, ◌∙◌, ◌<◌, true, length, ltb-true, refl, rules, ap, subst, sym, take, arith}
+use Rattle.std.specs.Prelude.{Some, slice_get}
 use Rattle.std.proofs.Math.Path.{fun_ext}
 use Rattle.std.specs.List.{All}
 use Rattle.std.proofs.lemmas.List.{take_all}
 use Rattle.std.proofs.lemmas.List.Elements.{All-nil}
+use Rattle.std.proofs.lemmas.Option.{slice_get-get_or, slice_get_read}
 use Rattle.resolvo_pool.specs.Functions.{Provider, gathered}
 use Rattle.solutions.specs.Needed.{IsCausedBy, IsNeeded}
 use Rattle.solutions.specs.Selections.{is_kept}
 use Rattle.solutions.specs.Solutions.{is_among}
 use Rattle.solutions.specs.Wishes.{alternatives_of}
 use Rattle.solutions.proofs.DecisionLemmas.{next_holds}
-use Rattle.solutions.proofs.NeededLemmas.{needed_by}
+use Rattle.solutions.proofs.NeededLemmas.{caused_all, caused_next, needed_by}
 use Rattle.solutions.proofs.needed.are_needed.Given.{Over}
 use Rattle.solutions.proofs.needed.are_needed.Goals as goal
 
@@ -19,8 +21,10 @@ provided g = gathered g.D.NameId.PartialEq.eq g.D.SolvableId.PartialEq.eq g.D.Na
     g.D.SolvableId.Set.IdSet.is_too_large g.D.NameId.SolverId.are_many g.D.Interner.universe g.D.DependencyProvider.answers
 
 pub loop-place-init : goal.loop-place-init
-loop-place-init g c =
-    All-nil (IsNeeded (provided g c.args.provider.now) c.args.request.now.requirements.now (alternatives_of c.args.request.now.wishes.now) c.args.picked.now)
+loop-place-init g c = record {
+  caused = λ place solvable less. absurd (omega arith);
+  needed = All-nil (IsNeeded (provided g c.args.provider.now) c.args.request.now.requirements.now (alternatives_of c.args.request.now.wishes.now) c.args.picked.now);
+}
 
 pub loop-place-preserved : goal.loop-place-preserved
 loop-place-preserved g c =
@@ -42,12 +46,27 @@ loop-place-preserved g c =
     subst (λ h. IsCausedBy p h requirements wishes before cause x) (fun_ext c.in_ok-selection.ensures.picked) given in
     let caused : IsCausedBy p (is_among p picked) requirements wishes (take place picked) cause x =
     subst (λ list. IsCausedBy p (is_among p picked) requirements wishes list cause x) c.before-in-loop-place.ensures among in
-    next_holds (IsNeeded p requirements wishes picked) picked place x c.loop-place-test.true c.index-picked-place.is
-    (needed_by p requirements wishes picked place c.loop-place.invariant cause x caused) c.loop-place.invariant
+    let causes = c.args.causes.now in
+    let so_far = c.loop-place.invariant in
+    let at : slice_get picked place ≡ Some x =
+    slice_get-get_or picked place x c.loop-place-test.true ∙ ap Some (sym c.index-picked-place.is) in
+    let below : place < length causes = ltb-true place (length causes) (sym c.in-Some.ensures.lookup.0) in
+    let its : slice_get causes place ≡ Some cause = slice_get_read causes (length causes) place cause refl below c.in-Some.ensures.lookup.1 in
+    record {
+      caused = caused_next p requirements wishes picked causes place x at (cause, its, caused) so_far.caused;
+      needed = next_holds (IsNeeded p requirements wishes picked) picked place x c.loop-place-test.true c.index-picked-place.is
+          (needed_by p requirements wishes picked place so_far.needed cause x caused) so_far.needed;
+    }
 
-pub returns : goal.returns
-returns g c =
+pub returns-clause-caused : goal.returns-clause-caused
+returns-clause-caused g c =
+    let p = provided g c.args.provider.now in
+    λ e. caused_all p c.args.request.now.requirements.now (alternatives_of c.args.request.now.wishes.now) c.args.picked.now c.args.causes.now
+    c.loop-place.place c.loop-place-test.false c.loop-place.invariant.caused
+
+pub returns-clause-needed : goal.returns-clause-needed
+returns-clause-needed g c =
     let p = provided g c.args.provider.now in
     let picked = c.args.picked.now in
     λ e. subst (All (IsNeeded p c.args.request.now.requirements.now (alternatives_of c.args.request.now.wishes.now) picked))
-    (take_all c.loop-place.place picked c.loop-place-test.false) c.loop-place.invariant
+    (take_all c.loop-place.place picked c.loop-place-test.false) c.loop-place.invariant.needed

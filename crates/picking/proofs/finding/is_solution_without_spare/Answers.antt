@@ -1,8 +1,8 @@
 use Rattle.std.proofs.Common.{subst}
 use Rattle.resolvo_pool.specs.Functions.{Provider, gathered}
 use Rattle.solutions.specs.Wishes.{NoneSpare, alternatives_of}
-use Rattle.picking.proofs.finding.is_fine.Given.{Over}
-use Rattle.picking.proofs.finding.is_fine.Goals as goal
+use Rattle.picking.proofs.finding.is_solution_without_spare.Given.{Over}
+use Rattle.picking.proofs.finding.is_solution_without_spare.Goals as goal
 
 -- the provider's functions
 abbrev provided : (g : Over) → g.row.D.Denot → Provider g.row.D-NameId.Denot g.row.D-SolvableId.Denot
