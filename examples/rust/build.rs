@@ -1,4 +1,5 @@
-//! Says where the static libraries are, and the kit's part that calls the C library's allocator.
+//! Says where the static library of a release is, beside this crate; in the repository, where the libraries are that
+//! `rt lib` builds, and the kit's part that calls the C library's allocator.
 use std::env;
 use std::path::{Path, PathBuf};
 use std::process::exit;
@@ -11,6 +12,10 @@ const KIT: &str = "RATTLE_KIT";
 fn main() {
     println!("cargo::rerun-if-env-changed={LIBRARIES}");
     println!("cargo::rerun-if-env-changed={KIT}");
+    let release = Path::new(env!("CARGO_MANIFEST_DIR")).join("../lib");
+    if release.join("libnivolakku.a").is_file() {
+        return link(&release, "nivolakku", "a release has it");
+    }
     for name in ["picking_c", "script_c"] {
         let advice =
             format!("run rt lib in crates/{name}, or name the libraries' folder in {LIBRARIES}");
