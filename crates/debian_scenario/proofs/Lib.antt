@@ -1,0 +1,3 @@
+pub mod StanzaLemmas
+pub mod FieldLemmas
+pub mod ReadLemmas

@@ -1,0 +1,48 @@
+-- What a stanza asks for.
+use Rattle.std.specs.Prelude.{ℕ, true, false, List, Result, Ok}
+use Rattle.debian_scenario.specs.Results.{◌>>=◌}
+use Rattle.debian_scenario.specs.Values.{Values, flag_in, required_in, text_in, values_of, word_in}
+use Rattle.debian_scenario.specs.declared.fault.StanzaFault.{StanzaFault}
+use Rattle.debian_scenario.specs.declared.key.Key.TheVariants as Field
+use Rattle.debian_scenario.specs.declared.request.Actions.{Actions}
+
+pub record RequestText : Type 0 where
+  pub architecture : List ℕ
+  pub install : List ℕ
+  pub remove : List ℕ
+  pub actions : Actions
+
+abbrev pub actions_in : Values → Result Actions StanzaFault
+actions_in values = do
+  upgrade ← flag_in Field.Upgrade false values
+  dist_upgrade ← flag_in Field.DistUpgrade false values
+  upgrade_all ← flag_in Field.UpgradeAll false values
+  autoremove ← flag_in Field.Autoremove false values
+  forbid_new_install ← flag_in Field.ForbidNewInstall false values
+  forbid_remove ← flag_in Field.ForbidRemove false values
+  strict_pinning ← flag_in Field.StrictPinning true values
+  Ok (record {
+    upgrade = upgrade;
+    dist_upgrade = dist_upgrade;
+    upgrade_all = upgrade_all;
+    autoremove = autoremove;
+    forbid_new_install = forbid_new_install;
+    forbid_remove = forbid_remove;
+    strict_pinning = strict_pinning;
+  })
+
+abbrev pub request_in : Values → Result RequestText StanzaFault
+request_in values = do
+  protocol ← required_in Field.Request values
+  architecture ← word_in Field.Architecture values
+  actions ← actions_in values
+  Ok (record {
+    architecture = architecture;
+    install = text_in Field.Install values;
+    remove = text_in Field.Remove values;
+    actions = actions;
+  })
+
+-- the request that a stanza says
+abbrev pub request_of : List (List ℕ) → Result RequestText StanzaFault
+request_of stanza = values_of stanza >>= request_in
