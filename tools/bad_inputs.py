@@ -39,12 +39,12 @@ def cut(format, size):
     return [GOOD[format].removesuffix(b"0\n" if format == "script" else b".9\nb 1\n")]
 
 
-def many(unit, first=b"", last=b""):
-    """Copies of some bytes behind the first ones, which make the size."""
+def many(unit, first=b"", last=b"", most=None):
+    """Copies of some bytes behind the first ones, which make the size, or as many as are given if these are fewer."""
 
     def pieces(format, size):
         yield first
-        left = size // len(unit)
+        left = min(size // len(unit), most or size)
         at_once = max(1, PIECE // len(unit))
         while left > 0:
             yield unit * min(left, at_once)
@@ -77,6 +77,7 @@ def both(outcome):
 UNREADABLE, NOTHING, ANSWER = both("line 1"), both("nothing"), both("answer")
 UNREAD, UNWRITTEN = both("unread"), both("unwritten")
 INDEX, SCRIPT = ("index",), ("script",)
+MOST_SETS = (1 << 21) // 3  # of three words each, in the line of an index
 PRINTED = bytes(range(33, 127))
 
 INPUTS = [
@@ -94,10 +95,14 @@ INPUTS = [
     Input("a comment", NOTHING, many(b"x", b"# ")),
     Input("empty lines", NOTHING, lambda format, size: many(b"\n")(format, size // 10)),
     Input("CRLF empty lines", NOTHING, lambda format, size: many(b"\r\n")(format, size // 10)),
-    Input("a request of needs", {"index": "none"}, many(b"needs a 1..2 ", b"request "), formats=INDEX),
-    Input("a request of needs that are met", {"index": "a 1"}, many(b"needs a 1..2 ", b"request ", b"\na 1\n"),
+    Input("a request of needs", {"index": "none"}, many(b"needs a 1..2 ", b"request ", most=MOST_SETS), formats=INDEX),
+    Input("a request of needs that are met", {"index": "a 1"},
+          many(b"needs a 1..2 ", b"request ", b"\na 1\n", most=MOST_SETS), formats=INDEX),
+    Input("a request of a union", {"index": "none"}, many(b"| a 1..2 ", b"request needs a 1..2 ", most=MOST_SETS - 1),
           formats=INDEX),
-    Input("a request of a union", {"index": "none"}, many(b"| a 1..2 ", b"request needs a 1..2 "), formats=INDEX),
+    Input("a request of too many needs", {"index": "line 1"},
+          lambda format, size: many(b"needs a 1..2 ", b"request ")(format, max(size, 13 * (MOST_SETS + 1))),
+          formats=INDEX),
     Input("a request and blanks", {"index": "no version"}, many(b" ", b"request"), formats=INDEX),
     Input("a request of no needs", UNREADABLE, many(b"x ", b"request "), formats=INDEX),
     Input("a long number", UNREADABLE, many(b"0", b"request needs a ", b"1..2\n"), formats=INDEX),

@@ -6,7 +6,8 @@ ghost use Rattle.resolvo_pool.specs.Pool.{IsOfItself, nothing};
 ghost use Rattle.resolvo_pool.specs.PoolProps.{pool_props};
 ghost use Rattle.resolvo_pool.specs.Provider.{filtered};
 ghost use Rattle.resolvo_pool.specs.Texts.{IsAppended, IsSameText};
-ghost use Rattle.example_index.specs.Index.{here, of_name, is_within, version_in};
+ghost use Rattle.example_index.specs.Index.{here, of_name, is_within, range_in, range_text, version_in};
+ghost use Rattle.index_text.specs.PlainFormats.{plain_format};
 
 use crate::packages::Package;
 use crate::range::VersionRange;
@@ -19,7 +20,7 @@ use resolvo_pool::{
     Candidates, Condition, ConditionalRequirement, Dependencies, DependencyProvider, Interner,
     KnownDependencies, Pool,
 };
-use std::alloc::Global;
+use std::alloc::{AllocError, Global};
 
 /// The versions of packages, and what each needs.
 #[derive(Drop)]
@@ -63,6 +64,20 @@ impl SmallIndex {
     {
         &self.request
     }
+
+    /// The text of a version set's range.
+    pub(crate) fn range_text(&self, alloc: Global, set: VersionSetId) -> Result<String, AllocError>
+        requires { set.0 < length self.now.pool.version_sets }
+        ensures { IfOk result (λ text. string_bytes text ≡
+            range_text (plain_format self.now.format) (range_in self.now.pool set)) }
+    {
+        let range = *self.pool.resolve_version_set(set);
+        let mut text = String::new(alloc);
+        self.format.write(range.low, &mut text)?;
+        text.push_str("..")?;
+        self.format.write(range.high, &mut text)?;
+        Ok(text)
+    }
 }
 
 /// The ids are the pool's, and so are the laws of them.
@@ -70,8 +85,6 @@ impl Interner for SmallIndex {
     ghost use Rattle.resolvo_pool.specs.PoolIds.{universe_in, texts_in};
     ghost use Rattle.resolvo_pool.specs.PoolLaws.{pool_solvable_names, pool_set_names, pool_union_sets, pool_operands};
     ghost use Rattle.index_text.specs.Formats.{version_text};
-    ghost use Rattle.index_text.specs.PlainFormats.{plain_format};
-    ghost use Rattle.example_index.specs.Index.{range_text};
 
     type Alloc = Global;
 
@@ -146,12 +159,7 @@ impl Interner for SmallIndex {
     }
 
     fn display_version_set(&self, set: VersionSetId, out: &mut String) -> Result<(), StoreError> {
-        let range = *self.pool.resolve_version_set(set);
-        let mut text = String::new(*out.allocator());
-        self.format.write(range.low, &mut text)?;
-        text.push_str("..")?;
-        self.format.write(range.high, &mut text)?;
-        append(out, &text)
+        append(out, &self.range_text(*out.allocator(), set)?)
     }
 
     fn display_string(&self, string: StringId, out: &mut String) -> Result<(), StoreError> {
@@ -170,7 +178,7 @@ fn append(out: &mut String, text: &str) -> Result<(), StoreError>
 
 impl DependencyProvider for SmallIndex {
     ghost use Rattle.std.proofs.lemmas.List.Sorted.{IsPermutation-reverse};
-    ghost use Rattle.example_index.specs.Index.{range_in, versions_of, favored_of, locked_of, excluded_of, needs_at};
+    ghost use Rattle.example_index.specs.Index.{versions_of, favored_of, locked_of, excluded_of, needs_at};
     ghost use Rattle.example_index.specs.Index.{named_known};
 
     type Cancel = ();

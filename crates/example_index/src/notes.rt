@@ -1,9 +1,11 @@
 //! Notes on an index: version sets that no version is in.
-ghost use Rattle.std.specs.Prelude.{◌≡◌, ◌<◌, [], All, ◌≤◌, IfOk, MatchOption, length, map};
-ghost use Rattle.resolvo_pool.specs.Texts.{IsContinued, IsSameText};
-ghost use Rattle.example_index.specs.Index.{here, of_name};
+ghost use Rattle.std.specs.Prelude.{◌≡◌, ◌<◌, ◌≤◌, [], All, IfOk, OnOk, MatchOption};
+ghost use Rattle.std.specs.Prelude.{length, map, slice_get, string_bytes};
+ghost use Rattle.resolvo_pool.specs.Texts.{IsAppended, IsContinued, IsSameText};
+ghost use Rattle.example_index.specs.Index.{here, of_name, versions_of};
 ghost use Rattle.example_index.specs.Listed.{places_where};
-ghost use Rattle.example_index.specs.Notes.{has_within, is_empty_at, is_empty_set};
+ghost use Rattle.example_index.specs.Notes.{absent_text, empty_text, has_within, is_empty_at, is_empty_set, is_noted};
+ghost use Rattle.example_index.specs.Notes.{comma_before, more_text, note_text, notes_from, shown, versions_from};
 
 use crate::index::SmallIndex;
 use crate::interning::Ids;
@@ -78,50 +80,54 @@ impl SmallIndex {
         requires { All (λ set. set.0 < length self.now.pool.version_sets) sets.now }
         ensures appends { IsContinued text.old text.new }
         ensures none { sets.now ≡ [] → IsSameText text.old text.new }
+        ensures told { OnOk result (IsAppended text.old text.new (notes_from self.now NOTES [] sets.now)) }
     {
-        let mut told = Vec::new(alloc);
-        let mut notes = 0;
+        let mut noted = Vec::new(alloc);
+        let mut room = NOTES;
         for (i, set) in sets.iter().enumerate() {
-            if notes == NOTES {
-                let more = sets.len() - i;
-                text.push_str(&format!(in alloc; "and {more} more version sets\n")?)?;
+            if room == 0 {
+                text.push_str(&more_text(alloc, sets.len() - i)?)?;
                 return Ok(());
             }
-            if let Some(note) = self.note(alloc, *set, &mut told)? {
-                text.push_str(&note)?;
-                notes += 1;
+            if self.is_noted(*set, &noted) {
+                continue;
             }
+            text.push_str(&self.note(alloc, *set)?)?;
+            noted.push(self.pool.resolve_version_set_package_name(*set))?;
+            room -= 1;
         }
         Ok(())
     }
 
-    /// What is said of a version set without a candidate; none if it was noted before that its package has no versions.
-    fn note(
-        &self,
-        alloc: Global,
-        set: VersionSetId,
-        told: &mut Vec<NameId>,
-    ) -> Result<Option<String>, StoreError>
+    /// Whether the package of a version set is one of those that were noted, and no line has it.
+    fn is_noted(&self, set: VersionSetId, noted: &[NameId]) -> bool
         requires { set.0 < length self.now.pool.version_sets }
+        ensures { result ≡ is_noted self.now noted.now set }
+    {
+        let name = self.pool.resolve_version_set_package_name(set);
+        self.versions_of(name).is_empty() && noted.contains(&name)
+    }
+
+    /// What is said of a version set without a candidate.
+    fn note(&self, alloc: Global, set: VersionSetId) -> Result<String, StoreError>
+        requires { set.0 < length self.now.pool.version_sets }
+        ensures { IfOk result (λ note. string_bytes note ≡ note_text self.now set) }
     {
         let id = self.pool.resolve_version_set_package_name(set);
-        let name = self.pool.resolve_package_name(id);
+        let name = self.pool.resolve_package_name(id).as_str();
         let versions = self.versions_of(id);
         if versions.is_empty() {
-            if told.contains(&id) {
-                return Ok(None);
-            }
-            told.push(id)?;
-            return Ok(Some(format!(in alloc; "no line has the package {name}\n")?));
+            return Ok(absent_text(alloc, name)?);
         }
-        let mut range = String::new(alloc);
-        self.display_version_set(set, &mut range)?;
+        let range = self.range_text(alloc, set)?;
         let versions = self.first_versions(alloc, versions)?;
-        Ok(Some(format!(in alloc; "{name} {range} holds no version; {name} has {versions}\n")?))
+        Ok(empty_text(alloc, name, &range, &versions)?)
     }
 
     /// The versions of a package.
-    fn versions_of(&self, name: NameId) -> &[SolvableId] {
+    fn versions_of(&self, name: NameId) -> &[SolvableId]
+        ensures { result.now ≡ versions_of (slice_get self.now.packages.items name) }
+    {
         match self.packages.get(name.to_index()) {
             Some(package) => &package.versions,
             None => &[],
@@ -129,27 +135,59 @@ impl SmallIndex {
     }
 
     /// The first five versions of these solvables, with `..` behind them if there are more.
-    fn first_versions(
-        &self,
-        alloc: Global,
-        solvables: &[SolvableId],
-    ) -> Result<String, AllocError> {
+    fn first_versions(&self, alloc: Global, solvables: &[SolvableId]) -> Result<String, AllocError>
+        ensures { IfOk result (λ text. string_bytes text ≡ versions_from self.now 0 solvables.now) }
+    {
         let mut text = String::new(alloc);
         for (i, solvable) in solvables.iter().enumerate() {
-            if i > 0 {
-                text.push_str(", ")?;
-            }
+            text.push_str(comma_before(i))?;
             if i == VERSIONS {
                 text.push_str("..")?;
                 return Ok(text);
             }
-            if self.pool.knows_solvable(*solvable) {
-                let version = self.pool.resolve_solvable(*solvable).payload;
-                self.format.write(version, &mut text)?;
-            }
+            self.write_version(*solvable, &mut text)?;
         }
         Ok(text)
     }
+
+    /// Appends the version of a solvable.
+    fn write_version(&self, solvable: SolvableId, text: &mut String) -> Result<(), AllocError>
+        ensures { OnOk result (IsAppended text.old text.new (shown self.now solvable)) }
+    {
+        if self.pool.knows_solvable(solvable) {
+            let version = self.pool.resolve_solvable(solvable).payload;
+            return self.format.write(version, text);
+        }
+        Ok(())
+    }
+}
+
+/// What stands before the version at this place.
+fn comma_before(place: usize) -> &'static str
+    ensures { result.now ≡ comma_before place }
+{
+    if place == 0 { "" } else { ", " }
+}
+
+/// Says that no line has a package.
+fn absent_text(alloc: Global, name: &str) -> Result<String, AllocError>
+    ensures { IfOk result (λ text. string_bytes text ≡ absent_text name.now) }
+{
+    format!(in alloc; "no line has the package {name}\n")
+}
+
+/// Says that a range holds no version of a package, which has these versions.
+fn empty_text(alloc: Global, name: &str, range: &str, versions: &str) -> Result<String, AllocError>
+    ensures { IfOk result (λ text. string_bytes text ≡ empty_text name.now range.now versions.now) }
+{
+    format!(in alloc; "{name} {range} holds no version; {name} has {versions}\n")
+}
+
+/// Says how many version sets are left.
+fn more_text(alloc: Global, more: usize) -> Result<String, AllocError>
+    ensures { IfOk result (λ text. string_bytes text ≡ more_text more) }
+{
+    format!(in alloc; "and {more} more version sets\n")
 }
 
 /// Whether a version of a package is within the range.

@@ -1,6 +1,7 @@
 pub mod Cuts
 pub mod EachLemmas
 pub mod EndLemmas
+pub mod EntryLemmas
 pub mod LineLemmas
 pub mod OrderLaws
 pub mod OrderLemmas

@@ -4,7 +4,7 @@ use Rattle.std.specs.Prelude.{IfSome, option_and_then, if◌then◌else◌, code
 use Rattle.std.specs.Option.{ok_or}
 use Rattle.std.specs.Str.{bytes_eq}
 use Rattle.index_text.specs.Diagnoses.{earlier_line, is_first, line_in}
-use Rattle.index_text.specs.Entries.{is_entry}
+use Rattle.index_text.specs.Entries.{are_too_many, is_entry}
 use Rattle.index_text.specs.Formats.{VersionFormat, Numbers, Semver, number_in, ends_of}
 use Rattle.index_text.specs.Indexes.{NumberedWords}
 use Rattle.index_text.specs.Lines.{VersionText, behind_format, version_said}
@@ -120,16 +120,21 @@ expected_from format kind place [] = expected_at kind place
 expected_from format kind place (word ∷ words) =
     or_expected (λ next. expected_from format kind next words) (place_behind format kind place word)
 
+-- of entries: the line's end behind 2^21 words, if there are more
+abbrev pub expected_of_entries : VersionFormat → LineKind → List (List ℕ) → Expected
+expected_of_entries format kind words =
+    if are_too_many words then Is.LineEnd else expected_from format kind At.First words
+
 -- of a request: `request` itself, or what is expected behind it
 abbrev pub expected_of_request : VersionFormat → List (List ℕ) → Expected
 expected_of_request format [] = Is.RequestFirst
 expected_of_request format (keyword ∷ words) =
-    if bytes_eq keyword (codes "request") then expected_from format Request At.First (behind_format format words)
+    if bytes_eq keyword (codes "request") then expected_of_entries format Request (behind_format format words)
     else Is.RequestFirst
 
 abbrev pub behind_version : VersionFormat → List (List ℕ) → Option ℕ → Expected
 behind_version format words None = Is.Version
-behind_version format words (Some number) = expected_from format Version At.First words
+behind_version format words (Some number) = expected_of_entries format Version words
 
 -- of a version: its name, its version, or what is expected behind them
 abbrev pub expected_of_version : VersionFormat → List (List ℕ) → Expected

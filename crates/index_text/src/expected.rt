@@ -39,6 +39,8 @@ pub enum Expected {
     ConditionOrEntry,
     /// The same in a request.
     ConditionOrNeed,
+    /// The line's end: a line has no more words of entries.
+    LineEnd,
     /// Another version: this one has the line of this number already.
     DuplicateOf(u64),
 }
@@ -85,6 +87,7 @@ impl fmt::Display for Expected {
             Expected::UnionOrNeed => "`|`, `if` or `needs`",
             Expected::ConditionOrEntry => "`and`, `or`, `needs`, `limits`, `favored` or `locked`",
             Expected::ConditionOrNeed => "`and`, `or` or `needs`",
+            Expected::LineEnd => "the line's end: at most 2097152 words are entries",
             Expected::DuplicateOf(line) => {
                 return write!(f, "this version has a line already: line {line}");
             }

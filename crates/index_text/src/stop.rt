@@ -3,11 +3,14 @@ ghost use Rattle.std.specs.Prelude.{◌≡◌, ◌≤◌, ◌+◌, not, false, l
 ghost use Rattle.std.specs.List.{list_all, prefix_len};
 ghost use Rattle.script_text.specs.Lines.{IsPrinted, is_printed};
 ghost use Rattle.script_text.specs.Words.{words as words_of};
-ghost use Rattle.index_text.specs.Expected.{expected_from, expected_in, expected_of_request, expected_of_version};
+ghost use Rattle.index_text.specs.Entries.{are_too_many};
+ghost use Rattle.index_text.specs.Expected.{expected_from, expected_in};
+ghost use Rattle.index_text.specs.Expected.{expected_of_entries, expected_of_request, expected_of_version};
 ghost use Rattle.index_text.specs.Indexes.{words_in};
 ghost use Rattle.index_text.specs.Lines.{behind_format};
 ghost use Rattle.index_text.specs.PlainFormats.{plain_format};
 
+use crate::entry::MOST_WORDS;
 use crate::expected::Expected;
 use crate::format::VersionFormat;
 use crate::place::{LineKind, Place};
@@ -111,9 +114,48 @@ fn version_stop(alloc: Global, format: &VersionFormat, text: &[u8]) -> Result<St
     }
 }
 
-/// Where words stop being entries.
-#[tactic(auto, using(crate::proofs::StopLemmas::goes_on, crate::proofs::StopLemmas::stops))]
+/// Where words stop being entries: at the first one that is too many, if there is one.
+#[tactic(auto, using(crate::proofs::StopLemmas::surplus))]
 fn entries_stop(
+    alloc: Global,
+    format: &VersionFormat,
+    words: &[u8],
+    kind: LineKind,
+) -> Result<Stop, AllocError>
+    requires { IsPrinted words.now }
+    ensures within { IfOk result (λ stop. stop.left ≤ length words.now) }
+    ensures expected { IfOk result (λ stop.
+        stop.expected ≡ expected_of_entries (plain_format format.now) kind (words_of words.now)) }
+{
+    match surplus_length(words) {
+        Some(left) => {
+            let expected = Expected::LineEnd;
+            Ok(Stop { left, expected })
+        }
+        None => words_stop(alloc, format, words, kind),
+    }
+}
+
+/// How many bytes there are from the first word on that is one too many; none if there is no such word.
+#[tactic(auto, using(crate::proofs::StopLemmas::passing))]
+fn surplus_length(words: &[u8]) -> Option<usize>
+    ensures some { is_some result ≡ are_too_many (words_of words.now) }
+    ensures within { IfSome result (λ left. left ≤ length words.now) }
+{
+    let (mut rest, mut passed) = (words, 0);
+    'passing: while let Some((_, others)) = next_word(rest) {
+        if passed == MOST_WORDS {
+            return Some(without_blanks(rest).len());
+        }
+        passed += 1;
+        rest = others;
+    }
+    None
+}
+
+/// Where words stop being entries, however many there are.
+#[tactic(auto, using(crate::proofs::StopLemmas::goes_on, crate::proofs::StopLemmas::stops))]
+fn words_stop(
     alloc: Global,
     format: &VersionFormat,
     words: &[u8],

@@ -1,10 +1,13 @@
-use Rattle.std.proofs.Common.{◌≡◌, ◌≤◌, []}
+use Rattle.std.proofs.Common.{◌≡◌, [], ◌++◌, drop}
+use Rattle.std.specs.String.{string_bytes}
 use Rattle.resolvo_pool.specs.Texts.{IsContinued, IsSameText}
+use Rattle.example_index.specs.Notes.{notes_from}
 use Rattle.example_index.proofs.index.SmallIndex.write_notes.Given as goal
 
 abbrev pub invariant-loop-i : goal.invariant-loop-i
 invariant-loop-i l = record {
-  counted : l.notes ≤ l.i;
   text : IsContinued l.fn.text l.text;
   none : l.sets ≡ [] → IsSameText l.fn.text l.text;
+  told : string_bytes l.text ++ notes_from l.self l.room l.noted.items (drop l.i l.sets)
+      ≡ string_bytes l.fn.text ++ notes_from l.self 20 [] l.sets;
 }
