@@ -1,0 +1,4 @@
+pub mod AppendLemmas
+pub mod LineLemmas
+pub mod ReportLemmas
+pub mod TextLemmas

@@ -1,0 +1,6 @@
+pub mod Lines
+pub mod Words
+pub mod Versions
+pub mod ConditionTexts
+pub mod LineTexts
+pub mod Reports

@@ -1,0 +1,23 @@
+//! A test: the reports of indexes without a solution.
+//!
+//! Each index of standard input is answered by `picking`, and its report is printed. docs/REPORTS has the same indexes
+//! and reports.
+#![tactic(auto)]
+
+#[cfg(test)]
+mod many;
+mod reporting;
+
+use reporting::write_reports;
+use std::io::Read;
+use std::test::Fail;
+
+fn main(rt: HostRuntime) -> Result<(), Fail> {
+    let alloc = rt.alloc();
+    let mut bytes = Vec::new(alloc);
+    let _ = rt.reader().read_to_end(&mut bytes);
+    let mut text = String::new(alloc);
+    write_reports(alloc, &bytes, &mut text)?;
+    print!(rt; "{text}")?;
+    Ok(())
+}
