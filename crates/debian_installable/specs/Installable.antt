@@ -7,7 +7,8 @@ use Rattle.std.specs.Str.{bytes_eq}
 use Rattle.std.specs.declared.cmp.Ordering.{Ordering}
 use Rattle.debian_text.specs.Relations.{BoundText, RelationText, relation_of}
 use Rattle.debian_text.specs.declared.relation.Operator.{Operator}
-use Rattle.debian_text.specs.declared.relation.Operator.TheVariants.{Earlier, EarlierOrEqual, Equal, LaterOrEqual, Later}
+use Rattle.debian_text.specs.declared.relation.Operator.TheVariants.{Earlier, EarlierOrEqual, Equal, LaterOrEqual}
+use Rattle.debian_text.specs.declared.relation.Operator.TheVariants.{Later}
 use Rattle.debian_versions.specs.Order.{cmp_versions}
 use Rattle.debian_scenario.specs.Packages.{PackageText}
 use Rattle.debian_scenario.specs.declared.package.MultiArch.{MultiArch}

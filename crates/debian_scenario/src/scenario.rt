@@ -1,9 +1,11 @@
 //! Whole scenarios.
 ghost use Rattle.std.specs.Prelude.{◌≡◌, ◌<◌, length, option_map, IfOk, IfSome};
 ghost use Rattle.debian_text.specs.Fields.{fields};
-ghost use Rattle.debian_scenario.specs.Plain.{plain_package, plain_packages, plain_request, plain_scenario, plain_stanza};
+ghost use Rattle.debian_scenario.specs.Plain.{plain_package, plain_packages, plain_request, plain_scenario};
+ghost use Rattle.debian_scenario.specs.Plain.{plain_stanza};
 ghost use Rattle.debian_scenario.specs.Results.{IsRead, result_map};
-ghost use Rattle.debian_scenario.specs.Scenarios.{first_package, first_request, first_values, packages_from, scenario_of};
+ghost use Rattle.debian_scenario.specs.Scenarios.{first_package, first_request, first_values, packages_from};
+ghost use Rattle.debian_scenario.specs.Scenarios.{scenario_of};
 ghost use Rattle.debian_scenario.specs.Stanzas.{stanzas};
 
 use crate::fault::{ReadError, ScenarioFault, StanzaFault};

@@ -1,7 +1,8 @@
 -- What lines tell, as they grow.
 use Rattle.std.proofs.Common.{◌≡◌, ◌∙◌, ℕ, zero, suc, Bool, true, false, List, [], ◌∷◌, ◌++◌, map, Option, None, Some}
 use Rattle.std.proofs.Common.{arith, refl, sym, ap, subst, true≢false}
-use Rattle.std.proofs.Common.{◌+◌, ◌<◌, ◌≤◌, add-one, append_assoc, drop, get_or, length, option_to_list, slice_get, take}
+use Rattle.std.proofs.Common.{◌+◌, ◌<◌, ◌≤◌, add-one, append_assoc, drop, get_or, length, option_to_list}
+use Rattle.std.proofs.Common.{slice_get, take}
 use Rattle.std.proofs.Math.Seq.{take-suc}
 use Rattle.std.proofs.Math.ListN.{set}
 use Rattle.std.specs.List.{All}
@@ -47,13 +48,15 @@ one_of_one name (Some s) = All-nil (λ version. name version ≡ name s)
 
 -- a further version
 pub told_more : {N S : Type 0} (reason : Reason N S) (versions : List S) (first s : S)
-    → slice_get versions 0 ≡ Some first → told_of reason (versions ++ s ∷ []) ≡ told_of reason versions ++ said_of reason s ∷ []
+    → slice_get versions 0 ≡ Some first
+    → told_of reason (versions ++ s ∷ []) ≡ told_of reason versions ++ said_of reason s ∷ []
 told_more reason [] first s h = cc
 told_more reason (v ∷ versions) first s h =
     ap (λ t. said_of reason v ∷ t) (map-append (said_of reason) versions (s ∷ []))
 
 pub one_package_more : {N S : Type 0} (name : S → N) (versions : List S) (first s : S)
-    → slice_get versions 0 ≡ Some first → name s ≡ name first → AreOfOnePackage name versions → AreOfOnePackage name (versions ++ s ∷ [])
+    → slice_get versions 0 ≡ Some first → name s ≡ name first → AreOfOnePackage name versions
+    → AreOfOnePackage name (versions ++ s ∷ [])
 one_package_more name [] first s h same all = All-nil (λ version. name version ≡ name s)
 one_package_more name (v ∷ versions) first s h same all =
     let is : name s ≡ name v = cc in
@@ -140,12 +143,13 @@ written_back count new old same full =
     ∙ (ap (take count) (append-nil new) ∙ take_all count new (omega arith))
 
 -- if no line tells it too
-pub begun_if_none : {N S A : Type 0} (name : S → N) (old between shown new : List (Line N S A)) (reason : Reason N S)
-    (joins : Bool) → joins ≡ false → shown ≡ between → JoinsOne name old between reason joins
+pub begun_if_none : {N S A : Type 0} (name : S → N) (old seen between shown new : List (Line N S A))
+    (reason : Reason N S) (joins : Bool) → joins ≡ false → seen ≡ old → shown ≡ between
+    → JoinsOne name seen between reason joins
     → TellMore name shown new reason → TellMore name old new reason
-begun_if_none name old between shown new reason true h is joined more = absurd (true≢false h)
-begun_if_none {N} {S} {A} name old between shown new reason false h is same more =
-    subst (λ (lines : List (Line N S A)). TellMore name lines new reason) (is ∙ same) more
+begun_if_none name old seen between shown new reason true h was is joined more = absurd (true≢false h)
+begun_if_none {N} {S} {A} name old seen between shown new reason false h was is same more =
+    subst (λ (lines : List (Line N S A)). TellMore name lines new reason) (is ∙ (same ∙ was)) more
 
 -- the line tells the reason too
 pub joined : {N S A : Type 0} (name : S → N) (old new : Line N S A) (reason : Reason N S) (first s : S)

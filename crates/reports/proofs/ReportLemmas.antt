@@ -16,5 +16,6 @@ pub is_report : {N S A : Type 0} (universe : Universe N S) (texts : Texts N S) (
     (says_of same_name universe) shown)
     → IsContinuedBy old new (IsReport A universe texts same_name same answers reasons)
 is_report universe texts same_name same answers reasons lines shown old new told is written =
-    let text = lines_text (text_of_line universe texts same answers) (needed_by universe) (says_of same_name universe) in
+    let line = text_of_line universe texts same answers in
+    let text = lines_text line (needed_by universe) (says_of same_name universe) in
     (text shown, written, record { lines = lines; are_told = told; is = ap text is })

@@ -80,7 +80,8 @@ module _ {N S : Type 0} (universe : Universe N S) (texts : Texts N S) where
     -- why the version sets of a union have no candidate that have none
     abbrev pub text_of_empty : Requirement → List ℕ
     text_of_empty (Single set) = []
-    text_of_empty (Union union) = if universe.knows_union union then text_of_empty_sets (universe.union_sets union) else []
+    text_of_empty (Union union) =
+        if universe.knows_union union then text_of_empty_sets (universe.union_sets union) else []
 
     abbrev pub text_of_said : Reason N S → List ℕ
     text_of_said (Needs parent need) =

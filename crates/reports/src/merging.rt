@@ -83,7 +83,8 @@ fn join_at<I: Interner>(
     ensures { IfOk result (λ joins. JoinsOne (I.universe interner.now).solvable_name lines.old lines.new reason joins) }
 {
     let line = &mut lines[place];
-    join(interner, line, reason)
+    let joins = join(interner, line, reason)?;
+    Ok(joins)
 }
 
 /// Adds the reason to the line, if the line says the same of its package; whether it does.

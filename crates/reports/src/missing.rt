@@ -1,7 +1,8 @@
 //! Why a version set has no candidate.
 ghost use Rattle.std.specs.Prelude.{◌≡◌, true, IfOk, OnOk};
 ghost use Rattle.resolvo_pool.specs.Texts.{IsAppended};
-ghost use Rattle.reports.specs.LineTexts.{has_no_candidate, text_of_absence, text_of_empty, text_of_empty_sets, text_of_if_empty};
+ghost use Rattle.reports.specs.LineTexts.{has_no_candidate, text_of_absence, text_of_empty, text_of_empty_sets};
+ghost use Rattle.reports.specs.LineTexts.{text_of_if_empty};
 ghost use Rattle.reports.specs.LineTexts.{text_of_further, text_of_missing, text_of_missing_set, text_of_missing_sets};
 ghost use Rattle.reports.specs.LineTexts.{text_of_no_package, text_of_outside};
 

@@ -14,8 +14,8 @@ use solutions::Reason;
 
 type Done = Result<(), StoreError>;
 
-/// Appends a report of the reasons for which there is no solution: a line for each thing that is said, once. Where there
-/// are more than twenty, a chain of needs is told three links to a line.
+/// Appends a report of the reasons for which there is no solution: a line for each thing that is said, once. Where
+/// there are more than twenty, a chain of needs is told three links to a line.
 pub fn write_report<P: DependencyProvider>(
     provider: &P,
     reasons: &[Reason<P::NameId, P::SolvableId>],

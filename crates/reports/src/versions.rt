@@ -1,7 +1,8 @@
 //! The versions of a line, in ranges.
 ghost use Rattle.std.specs.Prelude.{◌≡◌, [], true, false, All, IfOk, OnOk, drop, filter};
 ghost use Rattle.resolvo_pool.specs.Texts.{IsAppended};
-ghost use Rattle.reports.specs.Versions.{begins_with, begun, best_last, from, in_order, is_one, longer, next_range, rest_of};
+ghost use Rattle.reports.specs.Versions.{begins_with, begun, best_last, from, in_order, is_one, longer, next_range};
+ghost use Rattle.reports.specs.Versions.{rest_of};
 ghost use Rattle.reports.specs.Versions.{text_in_order, text_of_end, text_of_next, text_of_ranges, text_of_size};
 ghost use Rattle.reports.specs.Versions.{text_of_known, text_of_versions, those_among, those_beside};
 

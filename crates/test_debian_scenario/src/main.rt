@@ -1,5 +1,5 @@
-//! Reads scenarios of apt from standard input, between which `%` stands, and prints of each how many packages it has, or
-//! what is wrong with it.
+//! Reads scenarios of apt from standard input, between which `%` stands, and prints of each how many packages it has,
+//! or what is wrong with it.
 #![tactic(auto)]
 
 use debian_scenario::{ReadError, Scenario, ScenarioFault, read};

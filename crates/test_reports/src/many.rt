@@ -5,6 +5,7 @@ use std::test::Fail;
 
 /// How many packages the chain has, and versions of each.
 const PACKAGES: u32 = 60;
+
 const VERSIONS: u32 = 30;
 
 /// Packages in a chain: each version needs the next package. The last one needs a version that there isn't.
@@ -13,7 +14,7 @@ fn chain(alloc: Global) -> Result<String, AllocError> {
     for package in 1..=PACKAGES {
         let next = package.saturating_add(1);
         for version in 1..=VERSIONS {
-            let end = if package == PACKAGES { 100 } else { 1 };
+            let end: u32 = if package == PACKAGES { 100 } else { 1 };
             let past = end.saturating_add(VERSIONS);
             let line = format!(in alloc; "p{package} {version} needs p{next} {end}..{past}\n")?;
             text.push_str(&line)?;
@@ -31,6 +32,8 @@ fn links_share_lines(rt: HostRuntime) -> Result<(), Fail> {
     let mut text = String::new(alloc);
     write_reports(alloc, index.as_bytes(), &mut text)?;
     assert_eq!(rt; text.as_str().lines().count(), 21);
-    assert!(rt; text.as_str().contains("\np3 1 to 30 needs p4 1..31; p4 1 to 30 needs p5 1..31; p5 1"));
+    assert!(rt;
+        text.as_str().contains("\np3 1 to 30 needs p4 1..31; p4 1 to 30 needs p5 1..31; p5 1")
+    );
     Ok(())
 }
