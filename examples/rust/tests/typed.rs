@@ -1,7 +1,7 @@
 //! What a caller in Rust gets.
 use nivolakku::{Index, PickError, Picked, ScriptError, script};
 
-const CATALOGUE: &str = "package a 1 2\nset a 1\nbegin\n";
+const CATALOGUE: &str = "package a 1 2\nset a 1 9\nbegin\n";
 
 fn version(name: &str, version: &str) -> Picked {
     let (name, version) = (name.into(), version.into());
