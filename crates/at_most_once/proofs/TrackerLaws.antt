@@ -50,14 +50,6 @@ module _ {N : Type 0} (same : N → N → Bool) where
   unfolding tracker_of
   tracker_started kept name t e = fun_ext (λ other. found_at_end kept name t other e)
 
-  -- and is found
-  pub found_started : IsEquivalence same → (kept : List (N × TrackerState ℕ)) (name : N) (t : TrackerState ℕ)
-      → is_some (lookup (same name) (kept ++ (name, t) ∷ [])) ≡ true
-  found_started laws [] name t = ap (λ b. is_some (cond b (Some t) None)) (laws.refl name)
-  found_started laws (k ∷ kept) name t =
-      elim (same name k.0) as (λ b. is_some (cond b (Some k.1) (lookup (same name) (kept ++ (name, t) ∷ []))) ≡ true)
-      [ true ↦ refl | false ↦ found_started laws kept name t ]
-
   -- an empty tracker more takes no room away
   pub room_started : (kept : List (N × TrackerState ℕ)) (name : N) (t : TrackerState ℕ) (other : N) → KeepsRoomFor same other kept (kept ++ (name, t) ∷ [])
   room_started [] name t other with_helper h = absurd h

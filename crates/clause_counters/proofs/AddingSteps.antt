@@ -9,7 +9,7 @@ use Rattle.std.proofs.lemmas.List.{length-set}
 use Rattle.clause_counters.specs.declared.links.Link.{Link}
 use Rattle.clause_counters.specs.declared.groups.Standing.{Standing}
 use Rattle.clause_counters.specs.declared.groups.Group.{Group}
-use Rattle.clause_counters.specs.Links.{no_link, link_at, listed, count}
+use Rattle.clause_counters.specs.Links.{no_link, link_at, numbers_at, count}
 use Rattle.clause_counters.specs.Counted.{no_standing, standing_at, no_group, group_at, all_places, open_places}
 use Rattle.clause_counters.specs.Counted.{all_members, open_members}
 use Rattle.clause_counters.specs.Adding.{IsStanding, IsMember, initial_flag, with_place, placed_at, with_member}
@@ -78,9 +78,9 @@ module _ (ps : List Link) (ls : List Standing) (st : IsStanding ps ls) (i : ℕ)
     within = within_pushed is_closed list_of no_standing ps st.linked ls st.within i l group row refl;
   }
 
-  pub lists_step : (k h : ℕ) → count h (listed (with_place ps ls i group)
+  pub lists_step : (k h : ℕ) → count h (numbers_at (with_place ps ls i group)
       (standing_at (placed_at ps ls i told) k).groups)
-      ≡ count h (listed ps (standing_at ls k).groups) + cond (eqb i k) (cond (eqb group h) 1 0) 0
+      ≡ count h (numbers_at ps (standing_at ls k).groups) + cond (eqb i k) (cond (eqb group h) 1 0) 0
   lists_step = lists_pushed is_closed list_of no_standing ps st.linked ls st.within i l group row refl
 
   pub all_step : (h : ℕ) → all_places (with_place ps ls i group) (placed_at ps ls i told) h
@@ -157,12 +157,12 @@ module _ (ps : List Link) (ls : List Standing) (st : IsStanding ps ls) (i : ℕ)
   pub standing_once : IsStanding (with_place_once ps ls i group) (placed_once ps ls i group told)
   standing_once = either (λ b. IsStanding) (λ e. st) (standing_step ps ls st i l group told)
 
-  pub lists_once : (k h : ℕ) → count h (listed (with_place_once ps ls i group)
+  pub lists_once : (k h : ℕ) → count h (numbers_at (with_place_once ps ls i group)
       (standing_at (placed_once ps ls i group told) k).groups)
-      ≡ count h (listed ps (standing_at ls k).groups) + cond (eqb i k) (cond (eqb group h) (cond has_one 0 1) 0) 0
-  lists_once k h = either (λ b x (y : List Standing). count h (listed x (standing_at y k).groups)
-      ≡ count h (listed ps (standing_at ls k).groups) + cond (eqb i k) (cond (eqb group h) (cond b 0 1) 0) 0)
-      (λ e. no_terms (eqb i k) (eqb group h) (count h (listed ps (standing_at ls k).groups)))
+      ≡ count h (numbers_at ps (standing_at ls k).groups) + cond (eqb i k) (cond (eqb group h) (cond has_one 0 1) 0) 0
+  lists_once k h = either (λ b x (y : List Standing). count h (numbers_at x (standing_at y k).groups)
+      ≡ count h (numbers_at ps (standing_at ls k).groups) + cond (eqb i k) (cond (eqb group h) (cond b 0 1) 0) 0)
+      (λ e. no_terms (eqb i k) (eqb group h) (count h (numbers_at ps (standing_at ls k).groups)))
       (lists_step ps ls st i l group told k h)
 
   pub all_once : (h : ℕ) → all_places (with_place_once ps ls i group) (placed_once ps ls i group told) h
@@ -207,8 +207,8 @@ module _ (ms : List Link) (gs : List Group) (mb : IsMember ms gs) (i : ℕ) (l :
     within = within_pushed is_false_group clauses_in no_group ms mb.linked gs mb.within i l clause group_row refl;
   }
 
-  pub member_lists : (k h : ℕ) → count h (listed (with_member ms gs i clause) (group_at (joined_at ms gs i) k).clauses)
-      ≡ count h (listed ms (group_at gs k).clauses) + cond (eqb i k) (cond (eqb clause h) 1 0) 0
+  pub member_lists : (k h : ℕ) → count h (numbers_at (with_member ms gs i clause) (group_at (joined_at ms gs i) k).clauses)
+      ≡ count h (numbers_at ms (group_at gs k).clauses) + cond (eqb i k) (cond (eqb clause h) 1 0) 0
   member_lists = lists_pushed is_false_group clauses_in no_group ms mb.linked gs mb.within i l clause group_row refl
 
   pub member_all : (h : ℕ) → all_members (with_member ms gs i clause) (joined_at ms gs i) h

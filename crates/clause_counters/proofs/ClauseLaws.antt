@@ -4,73 +4,62 @@ use Rattle.std.proofs.Common.{refl, sym, ap, ◌∙◌, subst, arith, inl, inr}
 use Rattle.std.proofs.lemmas.Bool.{cases_lt}
 use Rattle.std.proofs.lemmas.List.{get_or-set_same, get_or-set_other, map-set, get_or-map, get_or_past, length-map}
 use Rattle.clause_counters.specs.declared.falsified_heap.Clause.{Clause}
-use Rattle.clause_counters.specs.FalsifiedHeap.{clause_at, marked, tallied, no_clause, lefts_of}
+use Rattle.clause_counters.specs.FalsifiedHeap.{heap_clause, with_mark, tallied, no_heap_clause, lefts_of}
 use Rattle.clause_counters.specs.FalsifiedHeap.{firsts_of}
 use Rattle.clause_counters.proofs.ListLaws.{field_kept, fields_kept, pushed_field}
 
 -- the clause that was marked, and the others
 pub at_marked : (m : Bool) (cs : List Clause) (c : ℕ) → c < length cs
-    → clause_at (marked m c cs) c ≡ record (clause_at cs c) { is_in_heap = m }
-at_marked m cs c in' = get_or-set_same cs c _ no_clause in'
+    → heap_clause (with_mark m c cs) c ≡ record (heap_clause cs c) { is_in_heap = m }
+at_marked m cs c in' = get_or-set_same cs c _ no_heap_clause in'
 
-pub at_others : (m : Bool) (cs : List Clause) (c d : ℕ) → d ≢ c → clause_at (marked m c cs) d ≡ clause_at cs d
-at_others m cs c d ne = get_or-set_other cs c d _ no_clause ne
+pub at_others : (m : Bool) (cs : List Clause) (c d : ℕ) → d ≢ c → heap_clause (with_mark m c cs) d ≡ heap_clause cs d
+at_others m cs c d ne = get_or-set_other cs c d _ no_heap_clause ne
 
 -- a mark changes no parent and no number
-pub first_kept : (m : Bool) (cs : List Clause) (c d : ℕ) → (clause_at (marked m c cs) d).first_of_parent
-    ≡ (clause_at cs d).first_of_parent
-first_kept m cs c d = field_kept (λ (x : Clause). x.first_of_parent) cs no_clause
-    (record (clause_at cs c) { is_in_heap = m }) c d refl
+pub first_kept : (m : Bool) (cs : List Clause) (c d : ℕ) → (heap_clause (with_mark m c cs) d).first_of_parent
+    ≡ (heap_clause cs d).first_of_parent
+first_kept m cs c d = field_kept (λ (x : Clause). x.first_of_parent) cs no_heap_clause
+    (record (heap_clause cs c) { is_in_heap = m }) c d refl
 
-pub left_kept : (m : Bool) (cs : List Clause) (c d : ℕ) → (clause_at (marked m c cs) d).left ≡ (clause_at cs d).left
-left_kept m cs c d = field_kept (λ (x : Clause). x.left) cs no_clause
-    (record (clause_at cs c) { is_in_heap = m }) c d refl
+pub left_kept : (m : Bool) (cs : List Clause) (c d : ℕ) → (heap_clause (with_mark m c cs) d).left ≡ (heap_clause cs d).left
+left_kept m cs c d = field_kept (λ (x : Clause). x.left) cs no_heap_clause
+    (record (heap_clause cs c) { is_in_heap = m }) c d refl
 
-pub lefts_kept : (m : Bool) (cs : List Clause) (c : ℕ) → lefts_of (marked m c cs) ≡ lefts_of cs
-lefts_kept m cs c = fields_kept (λ (x : Clause). x.left) cs no_clause
-    (record (clause_at cs c) { is_in_heap = m }) c refl
+pub lefts_kept : (m : Bool) (cs : List Clause) (c : ℕ) → lefts_of (with_mark m c cs) ≡ lefts_of cs
+lefts_kept m cs c = fields_kept (λ (x : Clause). x.left) cs no_heap_clause
+    (record (heap_clause cs c) { is_in_heap = m }) c refl
 
-pub firsts_kept : (m : Bool) (cs : List Clause) (c : ℕ) → firsts_of (marked m c cs) ≡ firsts_of cs
-firsts_kept m cs c = fields_kept (λ (x : Clause). x.first_of_parent) cs no_clause
-    (record (clause_at cs c) { is_in_heap = m }) c refl
+pub firsts_kept : (m : Bool) (cs : List Clause) (c : ℕ) → firsts_of (with_mark m c cs) ≡ firsts_of cs
+firsts_kept m cs c = fields_kept (λ (x : Clause). x.first_of_parent) cs no_heap_clause
+    (record (heap_clause cs c) { is_in_heap = m }) c refl
 
 -- a number that is told changes no parent
 pub tallied_lefts : (left c : ℕ) (cs : List Clause) → lefts_of (tallied left c cs) ≡ set (lefts_of cs) c left
-tallied_lefts left c cs = map-set (λ (x : Clause). x.left) cs c (record (clause_at cs c) { left = left })
+tallied_lefts left c cs = map-set (λ (x : Clause). x.left) cs c (record (heap_clause cs c) { left = left })
 
 pub tallied_firsts : (left c : ℕ) (cs : List Clause) → firsts_of (tallied left c cs) ≡ firsts_of cs
-tallied_firsts left c cs = fields_kept (λ (x : Clause). x.first_of_parent) cs no_clause
-    (record (clause_at cs c) { left = left }) c refl
-
--- a number that is told changes neither a mark nor a parent
-pub tallied_mark : (n c : ℕ) (cs : List Clause) (d : ℕ) → (clause_at (tallied n c cs) d).is_in_heap
-    ≡ (clause_at cs d).is_in_heap
-tallied_mark n c cs d = field_kept (λ (x : Clause). x.is_in_heap) cs no_clause
-    (record (clause_at cs c) { left = n }) c d refl
-
-pub tallied_first : (n c : ℕ) (cs : List Clause) (d : ℕ) → (clause_at (tallied n c cs) d).first_of_parent
-    ≡ (clause_at cs d).first_of_parent
-tallied_first n c cs d = field_kept (λ (x : Clause). x.first_of_parent) cs no_clause
-    (record (clause_at cs c) { left = n }) c d refl
+tallied_firsts left c cs = fields_kept (λ (x : Clause). x.first_of_parent) cs no_heap_clause
+    (record (heap_clause cs c) { left = left }) c refl
 
 -- a clause more, without a mark
 pub mark_pushed : (cs : List Clause) (x : Clause) (d : ℕ) → x.is_in_heap ≡ false
-    → (clause_at (cs ++ x ∷ []) d).is_in_heap ≡ (clause_at cs d).is_in_heap
-mark_pushed cs x d plain = pushed_field (λ (y : Clause). y.is_in_heap) cs x no_clause d plain
+    → (heap_clause (cs ++ x ∷ []) d).is_in_heap ≡ (heap_clause cs d).is_in_heap
+mark_pushed cs x d plain = pushed_field (λ (y : Clause). y.is_in_heap) cs x no_heap_clause d plain
 
 -- a clause's tallies
-pub lefts_at : (cs : List Clause) (c : ℕ) → get_or (lefts_of cs) c 0 ≡ (clause_at cs c).left
+pub lefts_at : (cs : List Clause) (c : ℕ) → get_or (lefts_of cs) c 0 ≡ (heap_clause cs c).left
 lefts_at cs c = elim (cases_lt c (length cs)) [
-  | inl l ↦ get_or-map (λ (x : Clause). x.left) cs c no_clause 0 l
+  | inl l ↦ get_or-map (λ (x : Clause). x.left) cs c no_heap_clause 0 l
   | inr past ↦ get_or_past _ c 0 (subst (λ n. n ≤ c) (sym (length-map cs (λ (x : Clause). x.left))) past)
-      ∙ sym (ap (λ (x : Clause). x.left) (get_or_past cs c no_clause past))
+      ∙ sym (ap (λ (x : Clause). x.left) (get_or_past cs c no_heap_clause past))
 ]
 
-pub firsts_at : (cs : List Clause) (c : ℕ) → get_or (firsts_of cs) c 0 ≡ (clause_at cs c).first_of_parent
+pub firsts_at : (cs : List Clause) (c : ℕ) → get_or (firsts_of cs) c 0 ≡ (heap_clause cs c).first_of_parent
 firsts_at cs c = elim (cases_lt c (length cs)) [
-  | inl l ↦ get_or-map (λ (x : Clause). x.first_of_parent) cs c no_clause 0 l
+  | inl l ↦ get_or-map (λ (x : Clause). x.first_of_parent) cs c no_heap_clause 0 l
   | inr past ↦ get_or_past _ c 0 (subst (λ n. n ≤ c) (sym (length-map cs (λ (x : Clause). x.first_of_parent))) past)
-      ∙ sym (ap (λ (x : Clause). x.first_of_parent) (get_or_past cs c no_clause past))
+      ∙ sym (ap (λ (x : Clause). x.first_of_parent) (get_or_past cs c no_heap_clause past))
 ]
 
 -- a clause's number was told
@@ -86,7 +75,7 @@ pub told_firsts : (cs new : List Clause) (firsts : List ℕ) (n c : ℕ) → new
 told_firsts cs new firsts n c is view = ap firsts_of is ∙ (tallied_firsts n c cs ∙ view)
 
 -- a clause's number was read
-pub left_read : (cs : List Clause) (lefts : List ℕ) (c : ℕ) (x : Clause) → x ≡ clause_at cs c → lefts_of cs ≡ lefts
+pub left_read : (cs : List Clause) (lefts : List ℕ) (c : ℕ) (x : Clause) → x ≡ heap_clause cs c → lefts_of cs ≡ lefts
     → x.left ≡ get_or lefts c 0
 left_read cs lefts c x at view = ap (λ (y : Clause). y.left) at ∙ (sym (lefts_at cs c) ∙ ap (λ xs. get_or xs c 0) view)
 
@@ -96,6 +85,6 @@ pub within_from_left : (cs : List Clause) (lefts : List ℕ) (c : ℕ) → lefts
 within_from_left cs lefts c view some = elim (cases_lt c (length cs)) [
   | inl l ↦ l
   | inr past ↦ absurd (let none = ap (λ xs. get_or xs c 0) (sym view)
-      ∙ (lefts_at cs c ∙ ap (λ (y : Clause). y.left) (get_or_past cs c no_clause past)) in
+      ∙ (lefts_at cs c ∙ ap (λ (y : Clause). y.left) (get_or_past cs c no_heap_clause past)) in
       omega (arith, some, none))
 ]

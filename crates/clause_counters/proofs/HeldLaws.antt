@@ -14,8 +14,8 @@ use Rattle.std.proofs.lemmas.List.Sorted.{All-permutation, sum_by-IsPermutation,
 use Rattle.std.proofs.lemmas.List.Sums.{count_by-le-length, get_or-le-sum_by, sum_by-cons, sum_by-set, sum_by_push}
 use Rattle.clause_counters.specs.declared.position.Position.{Position}
 use Rattle.clause_counters.specs.declared.falsified_heap.Clause.{Clause}
-use Rattle.clause_counters.specs.FalsifiedHeap.{IsHeld, clause_at, marked, tallied, no_clause, heap_cmp, IsTop}
-use Rattle.clause_counters.proofs.ClauseLaws.{at_marked, at_others, first_kept, tallied_mark, tallied_first}
+use Rattle.clause_counters.specs.FalsifiedHeap.{IsHeld, heap_clause, with_mark, no_heap_clause, heap_cmp, IsTop}
+use Rattle.clause_counters.proofs.ClauseLaws.{at_marked, at_others, first_kept}
 use Rattle.clause_counters.proofs.ClauseLaws.{mark_pushed}
 
 -- whether an entry is that of the clause
@@ -24,22 +24,22 @@ is_of c e = eqb e.0.number c
 
 -- whether an entry has the first clause of its own clause's parent
 abbrev pub HasFirst : List Clause → Reverse Position → Type 0
-HasFirst cs e = e.0.first_of_parent ≡ (clause_at cs e.0.number).first_of_parent
+HasFirst cs e = e.0.first_of_parent ≡ (heap_clause cs e.0.number).first_of_parent
 
 abbrev entry_with : ℕ → ℕ → Reverse Position
 entry_with first c = record { 0 = record { first_of_parent = first; number = c } }
 
 abbrev entry_of : List Clause → ℕ → Reverse Position
-entry_of cs c = entry_with (clause_at cs c).first_of_parent c
+entry_of cs c = entry_with (heap_clause cs c).first_of_parent c
 
 -- a clause that is counted in the heap is marked, and there is such a clause
 pub counted_is_marked : (cs : List Clause) (es : List (Reverse Position)) (room c : ℕ) → IsHeld cs es room
     → 1 ≤ count_by (is_of c) es
-    → ((clause_at cs c).is_in_heap ≡ true) × (c < length cs)
+    → ((heap_clause cs c).is_in_heap ≡ true) × (c < length cs)
 counted_is_marked cs es room c h one = (marks, within)
   where
-    marks : (clause_at cs c).is_in_heap ≡ true
-    marks = (elim ((clause_at cs c).is_in_heap) as (λ b. (clause_at cs c).is_in_heap ≡ b → b ≡ true) [
+    marks : (heap_clause cs c).is_in_heap ≡ true
+    marks = (elim ((heap_clause cs c).is_in_heap) as (λ b. (heap_clause cs c).is_in_heap ≡ b → b ≡ true) [
       | true ↦ λ e. refl
       | false ↦ λ e. let z = h.once c ∙ ap (λ b. cond b 1 0) e in absurd (omega (arith, one, z))
     ]) refl
@@ -47,7 +47,7 @@ counted_is_marked cs es room c h one = (marks, within)
     within : c < length cs
     within = elim (cases_lt c (length cs)) [
       | inl l ↦ l
-      | inr past ↦ absurd (false≢true (sym (ap (λ (x : Clause). x.is_in_heap) (get_or_past cs c no_clause past))
+      | inr past ↦ absurd (false≢true (sym (ap (λ (x : Clause). x.is_in_heap) (get_or_past cs c no_heap_clause past))
           ∙ marks))
     ]
 
@@ -63,29 +63,29 @@ entries_within cs es room h = λ k d l.
 
 -- how many are marked, once a mark was set or taken away
 counted_marked : (m : Bool) (cs : List Clause) (c : ℕ) → c < length cs
-    → count_by (λ (x : Clause). x.is_in_heap) (marked m c cs) + cond (clause_at cs c).is_in_heap 1 0
+    → count_by (λ (x : Clause). x.is_in_heap) (with_mark m c cs) + cond (heap_clause cs c).is_in_heap 1 0
     ≡ count_by (λ (x : Clause). x.is_in_heap) cs + cond m 1 0
 counted_marked m cs c in' = sum_by-set (λ (x : Clause). cond x.is_in_heap 1 0) cs c
-    (record (clause_at cs c) { is_in_heap = m }) no_clause in'
+    (record (heap_clause cs c) { is_in_heap = m }) no_heap_clause in'
 
 -- a clause comes into the heap
 pub held_inserted : (cs : List Clause) (es es' : List (Reverse Position)) (room : ℕ) (c : ℕ) → IsHeld cs es room
     → c < length cs
-    → (clause_at cs c).is_in_heap ≡ false → IsPermutation (entry_of cs c ∷ es) es'
-    → (IsHeap heap_cmp es → IsHeap heap_cmp es') → IsHeld (marked true c cs) es' room
+    → (heap_clause cs c).is_in_heap ≡ false → IsPermutation (entry_of cs c ∷ es) es'
+    → (IsHeap heap_cmp es → IsHeap heap_cmp es') → IsHeld (with_mark true c cs) es' room
 held_inserted cs es es' room c h in' absent moved keeps = record {
   heap = keeps h.heap;
   once = λ d. moved_count d ∙ (elim (cases_eq d c) [
     | inl e ↦ subst (λ x. cond (eqb c x) 1 0 + count_by (is_of x) es
-        ≡ cond (clause_at (marked true c cs) x).is_in_heap 1 0) (sym e) here
+        ≡ cond (heap_clause (with_mark true c cs) x).is_in_heap 1 0) (sym e) here
     | inr ne ↦ there d ne
   ]);
-  placed = All-permutation (HasFirst (marked true c cs)) (entry_of cs c ∷ es) es' moved
-      (All-cons (HasFirst (marked true c cs)) (entry_of cs c) es (sym (first_kept true cs c c))
-      (All-weaker (HasFirst cs) (HasFirst (marked true c cs))
+  placed = All-permutation (HasFirst (with_mark true c cs)) (entry_of cs c ∷ es) es' moved
+      (All-cons (HasFirst (with_mark true c cs)) (entry_of cs c) es (sym (first_kept true cs c c))
+      (All-weaker (HasFirst cs) (HasFirst (with_mark true c cs))
       (λ e p. p ∙ sym (first_kept true cs c e.0.number)) es h.placed));
   counted = (let more = length_permutation (entry_of cs c ∷ es) es' moved in let before = h.counted in
-      let mark = counted_marked true cs c in' in let none : ◌≡◌ {A = ℕ} (cond (clause_at cs c).is_in_heap 1 0) 0 =
+      let mark = counted_marked true cs c in' in let none : ◌≡◌ {A = ℕ} (cond (heap_clause cs c).is_in_heap 1 0) 0 =
       ap (λ b. cond b 1 0) absent in
       omega (arith, more, before, mark, none));
   room = subst (λ n. n ≤ room) (sym (length-set cs c _)) h.room;
@@ -96,13 +96,13 @@ held_inserted cs es es' room c h in' absent moved keeps = record {
     moved_count d = sum_by-IsPermutation (λ e. cond (is_of d e) 1 0) (entry_of cs c ∷ es) es' moved
         ∙ sum_by-cons (λ e. cond (is_of d e) 1 0) (entry_of cs c) es
 
-    here : cond (eqb c c) 1 0 + count_by (is_of c) es ≡ cond (clause_at (marked true c cs) c).is_in_heap 1 0
+    here : cond (eqb c c) 1 0 + count_by (is_of c) es ≡ cond (heap_clause (with_mark true c cs) c).is_in_heap 1 0
     here = ap (λ b. cond b 1 0 + count_by (is_of c) es) (eq-eqb c c refl)
         ∙ (ap (λ n. 1 + n) (h.once c ∙ ap (λ b. cond b 1 0) absent)
         ∙ sym (ap (λ (x : Clause). cond x.is_in_heap 1 0) (at_marked true cs c in')))
 
     there : (d : ℕ) → d ≢ c → cond (eqb c d) 1 0 + count_by (is_of d) es
-        ≡ cond (clause_at (marked true c cs) d).is_in_heap 1 0
+        ≡ cond (heap_clause (with_mark true c cs) d).is_in_heap 1 0
     there d ne = ap (λ b. cond b 1 0 + count_by (is_of d) es) (ne_eqb c d (λ e. ne (sym e)))
         ∙ (let z : 0 + count_by (is_of d) es ≡ count_by (is_of d) es = omega arith in z)
         ∙ (h.once d ∙ sym (ap (λ (x : Clause). cond x.is_in_heap 1 0) (at_others true cs c d ne)))
@@ -111,21 +111,21 @@ held_inserted cs es es' room c h in' absent moved keeps = record {
 pub held_removed : (cs : List Clause) (es es' : List (Reverse Position)) (room : ℕ) (p : ℕ) (c : ℕ)
     → IsHeld cs es room
     → IsPermutation es (entry_with p c ∷ es')
-    → (IsHeap heap_cmp es → IsHeap heap_cmp es') → IsHeld (marked false c cs) es' room
+    → (IsHeap heap_cmp es → IsHeap heap_cmp es') → IsHeld (with_mark false c cs) es' room
 held_removed cs es es' room p c h moved keeps = record {
   heap = keeps h.heap;
   once = λ d. (elim (cases_eq d c) [
-    | inl e ↦ subst (λ y. count_by (is_of y) es' ≡ cond (clause_at (marked false c cs) y).is_in_heap 1 0) (sym e) here
+    | inl e ↦ subst (λ y. count_by (is_of y) es' ≡ cond (heap_clause (with_mark false c cs) y).is_in_heap 1 0) (sym e) here
     | inr ne ↦ there d ne
   ]);
   placed = All-weaker (HasFirst cs)
-      (HasFirst (marked false c cs))
+      (HasFirst (with_mark false c cs))
       (λ e q. q ∙ sym (first_kept false cs c e.0.number)) es'
       (All-tail (HasFirst cs) (entry_with p c) es'
       (All-permutation (HasFirst cs) es
       (entry_with p c ∷ es') moved h.placed));
   counted = (let less = length_permutation es (entry_with p c ∷ es') moved in let before = h.counted in
-      let mark = counted_marked false cs c is.1 in let one : ◌≡◌ {A = ℕ} (cond (clause_at cs c).is_in_heap 1 0) 1 =
+      let mark = counted_marked false cs c is.1 in let one : ◌≡◌ {A = ℕ} (cond (heap_clause cs c).is_in_heap 1 0) 1 =
       ap (λ b. cond b 1 0) is.0 in
       omega (arith, less, before, mark, one));
   room = subst (λ n. n ≤ room) (sym (length-set cs c _)) h.room;
@@ -139,23 +139,23 @@ held_removed cs es es' room p c h moved keeps = record {
     one : 1 + count_by (is_of c) es' ≡ count_by (is_of c) es
     one = ap (λ b. cond b 1 0 + count_by (is_of c) es') (sym (eq-eqb c c refl)) ∙ moved_count c
 
-    is : ((clause_at cs c).is_in_heap ≡ true) × (c < length cs)
+    is : ((heap_clause cs c).is_in_heap ≡ true) × (c < length cs)
     is = counted_is_marked cs es room c h (let e = one in omega (arith, e))
 
-    here : count_by (is_of c) es' ≡ cond (clause_at (marked false c cs) c).is_in_heap 1 0
+    here : count_by (is_of c) es' ≡ cond (heap_clause (with_mark false c cs) c).is_in_heap 1 0
     here =
         let before : count_by (is_of c) es ≡ 1 = h.once c ∙ ap (λ b. cond b 1 0) is.0 in
-        let now : ◌≡◌ {A = ℕ} (cond (clause_at (marked false c cs) c).is_in_heap 1 0) 0 =
+        let now : ◌≡◌ {A = ℕ} (cond (heap_clause (with_mark false c cs) c).is_in_heap 1 0) 0 =
         ap (λ (y : Clause). cond y.is_in_heap 1 0) (at_marked false cs c is.1) in
         let e = one in omega (arith, before, now, e)
 
-    there : (d : ℕ) → d ≢ c → count_by (is_of d) es' ≡ cond (clause_at (marked false c cs) d).is_in_heap 1 0
+    there : (d : ℕ) → d ≢ c → count_by (is_of d) es' ≡ cond (heap_clause (with_mark false c cs) d).is_in_heap 1 0
     there d ne =
         let same = moved_count d in
         let zero' : ◌≡◌ {A = ℕ} (cond (eqb c d) 1 0) 0 = ap (λ b. cond b 1 0) (ne_eqb c d (λ e. ne (sym e))) in
         let before = h.once d in
-        let now : ◌≡◌ {A = ℕ} (cond (clause_at (marked false c cs) d).is_in_heap 1 0)
-        (cond (clause_at cs d).is_in_heap 1 0) =
+        let now : ◌≡◌ {A = ℕ} (cond (heap_clause (with_mark false c cs) d).is_in_heap 1 0)
+        (cond (heap_clause cs d).is_in_heap 1 0) =
         ap (λ (y : Clause). cond y.is_in_heap 1 0) (at_others false cs c d ne) in
         omega (arith, same, zero', before, now)
 
@@ -170,21 +170,6 @@ top_within cs es room e h top =
     omega (arith, at, is)) in
     (counted_is_marked cs es room e.number h one).1
 
-pub held_tallied : (cs : List Clause) (es : List (Reverse Position)) (room n c : ℕ) → IsHeld cs es room → c < length cs
-    → IsHeld (tallied n c cs) es room
-held_tallied cs es room n c h in' = record {
-  heap = h.heap;
-  once = λ d. h.once d ∙ sym (ap (λ b. cond b 1 0) (tallied_mark n c cs d));
-  placed = All-weaker (HasFirst cs)
-      (HasFirst (tallied n c cs))
-      (λ e q. q ∙ sym (tallied_first n c cs e.0.number)) es h.placed;
-  counted = (let there = sum_by-set (λ (x : Clause). cond x.is_in_heap 1 0) cs c
-      (record (clause_at cs c) { left = n }) no_clause in' in
-      let before = h.counted in omega (arith, there, before));
-  room = subst (λ m. m ≤ room) (sym (length-set cs c _)) h.room;
-  few = subst (λ m. m ≤ 2 ^ 32) (sym (length-set cs c _)) h.few;
-}
-
 pub held_pushed : (cs : List Clause) (es : List (Reverse Position)) (room more : ℕ) (x : Clause) → IsHeld cs es room
     → x.is_in_heap ≡ false
     → length cs + 1 ≤ more → length cs < 2 ^ 32 → IsHeld (cs ++ x ∷ []) es more
@@ -193,7 +178,7 @@ held_pushed cs es room more x h plain fits few = record {
   once = λ d. h.once d ∙ sym (ap (λ b. cond b 1 0) (mark_pushed cs x d plain));
   placed = λ k d l. All-get_or (HasFirst cs) es k d l
       h.placed
-      ∙ sym (ap (λ (y : Clause). y.first_of_parent) (get_or_append_left cs (x ∷ []) no_clause (get_or es k d).0.number
+      ∙ sym (ap (λ (y : Clause). y.first_of_parent) (get_or_append_left cs (x ∷ []) no_heap_clause (get_or es k d).0.number
       (entries_within cs es room h k d l)));
   counted = (let there = sum_by_push (λ (y : Clause). cond y.is_in_heap 1 0) cs x in
       let none : ◌≡◌ {A = ℕ} (cond x.is_in_heap 1 0) 0 = ap (λ b. cond b 1 0) plain in
@@ -204,13 +189,13 @@ held_pushed cs es room more x h plain fits few = record {
 
 -- while a clause isn't marked the heap isn't full
 pub room_left : (cs : List Clause) (es : List (Reverse Position)) (room c : ℕ) → IsHeld cs es room → c < length cs
-    → (clause_at cs c).is_in_heap ≡ false
+    → (heap_clause cs c).is_in_heap ≡ false
     → length es < room
 room_left cs es room c h in' absent =
     let more = counted_marked true cs c in' in
-    let none : ◌≡◌ {A = ℕ} (cond (clause_at cs c).is_in_heap 1 0) 0 = ap (λ b. cond b 1 0) absent in
-    let all = count_by-le-length (λ (x : Clause). x.is_in_heap) (marked true c cs) in
-    let same = length-set cs c (record (clause_at cs c) { is_in_heap = true }) in
+    let none : ◌≡◌ {A = ℕ} (cond (heap_clause cs c).is_in_heap 1 0) 0 = ap (λ b. cond b 1 0) absent in
+    let all = count_by-le-length (λ (x : Clause). x.is_in_heap) (with_mark true c cs) in
+    let same = length-set cs c (record (heap_clause cs c) { is_in_heap = true }) in
     let count = h.counted in
     let fits = h.room in
     omega (arith, more, none, all, same, count, fits)

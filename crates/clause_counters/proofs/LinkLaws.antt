@@ -5,7 +5,7 @@ use Rattle.std.proofs.lemmas.Bool.{cases_eq, cases_lt}
 use Rattle.std.proofs.lemmas.List.{get_or_append_left, get_or_push, get_or_past, length_push}
 use Rattle.std.proofs.lemmas.List.Sums.{sum_by-cons}
 use Rattle.clause_counters.specs.declared.links.Link.{Link}
-use Rattle.clause_counters.specs.Links.{no_link, link_at, IsLinked, listed_within, listed, count}
+use Rattle.clause_counters.specs.Links.{no_link, link_at, IsLinked, listed_within, numbers_at, count}
 
 -- a list is within as many numbers as its place
 enough : (links : List Link) → IsLinked links → (a b list : ℕ) → list ≤ a → list ≤ b
@@ -23,21 +23,21 @@ enough links k (suc a) (suc b) (suc list) x y =
 
 -- a list is its first number and the list after it
 unrolled : (links : List Link) → IsLinked links → (place : ℕ)
-    → listed links (suc place) ≡ (link_at links place).value ∷ listed links (link_at links place).next
+    → numbers_at links (suc place) ≡ (link_at links place).value ∷ numbers_at links (link_at links place).next
 unrolled links k place = ap (λ rest. (link_at links place).value ∷ rest)
     (enough links k place (link_at links place).next (link_at links place).next (k.earlier place) (omega arith))
 
 pub count_unrolled : (links : List Link) → IsLinked links → (list c : ℕ) → (list ≡ 0 → ⊥)
-    → count c (listed links list) ≡ cond (eqb (link_at links (list - 1)).value c) 1 0 + count c
-    (listed links (link_at links (list - 1)).next)
+    → count c (numbers_at links list) ≡ cond (eqb (link_at links (list - 1)).value c) 1 0 + count c
+    (numbers_at links (link_at links (list - 1)).next)
 count_unrolled links k zero c some = absurd (some refl)
 count_unrolled links k (suc place) c some =
     let e : suc place - 1 ≡ place = omega arith in
-    subst (λ p. count c (listed links (suc place)) ≡ cond (eqb (link_at links p).value c) 1 0 + count c
-    (listed links (link_at links p).next)) (sym e)
+    subst (λ p. count c (numbers_at links (suc place)) ≡ cond (eqb (link_at links p).value c) 1 0 + count c
+    (numbers_at links (link_at links p).next)) (sym e)
     (ap (count c) (unrolled links k place)
     ∙ sum_by-cons (λ other. cond (eqb other c) 1 0) (link_at links place).value
-    (listed links (link_at links place).next))
+    (numbers_at links (link_at links place).next))
 
 -- the list after a link is shorter
 pub rest_within : (links : List Link) → IsLinked links → (list : ℕ) → (list ≡ 0 → ⊥)
@@ -61,7 +61,7 @@ kept_within links k link (suc most) (suc place) l =
     (kept_within links k link most (link_at links place).next (omega (arith, earlier, l)))
 
 pub listed_kept : (links : List Link) → IsLinked links → (link : Link) (list : ℕ) → list ≤ length links
-    → listed (links ++ link ∷ []) list ≡ listed links list
+    → numbers_at (links ++ link ∷ []) list ≡ numbers_at links list
 listed_kept links k link list l = kept_within links k link list list l
 
 -- links stay linked
@@ -82,12 +82,12 @@ linked_pushed links k link within = record {
 
 -- the list of a link that comes
 pub listed_pushed : (links : List Link) → IsLinked links → (link : Link) → link.next ≤ length links
-    → listed (links ++ link ∷ []) (length links + 1) ≡ link.value ∷ listed links link.next
+    → numbers_at (links ++ link ∷ []) (length links + 1) ≡ link.value ∷ numbers_at links link.next
 listed_pushed links k link within =
     let more : length links + 1 ≡ suc (length links) = omega arith in
     let last : link_at (links ++ link ∷ []) (length links) ≡ link =
     get_or_push links link no_link (length links) refl in
-    subst (λ n. listed (links ++ link ∷ []) n ≡ link.value ∷ listed links link.next) (sym more)
+    subst (λ n. numbers_at (links ++ link ∷ []) n ≡ link.value ∷ numbers_at links link.next) (sym more)
     (unrolled (links ++ link ∷ []) (linked_pushed links k link within) (length links)
-    ∙ (ap (λ (x : Link). x.value ∷ listed (links ++ link ∷ []) x.next) last
+    ∙ (ap (λ (x : Link). x.value ∷ numbers_at (links ++ link ∷ []) x.next) last
     ∙ ap (λ rest. link.value ∷ rest) (listed_kept links k link link.next within)))

@@ -9,7 +9,7 @@ use Rattle.std.proofs.lemmas.Bool.{cases_eq, eq-eqb, ne_eqb, true≢false, false
 use Rattle.std.proofs.lemmas.List.{get_or-set_same, get_or-set_other, length_push}
 use Rattle.std.proofs.lemmas.List.Sums.{sum_by-cons, sum_by-set}
 use Rattle.clause_counters.specs.declared.links.Link.{Link}
-use Rattle.clause_counters.specs.Links.{listed, count, IsLinked}
+use Rattle.clause_counters.specs.Links.{numbers_at, count, IsLinked}
 use Rattle.clause_counters.proofs.ListLaws.{sum_same}
 use Rattle.clause_counters.proofs.LinkLaws.{listed_kept, listed_pushed, linked_pushed}
 
@@ -62,28 +62,28 @@ module _ {R : Type 0} (closed : R → Bool) (list : R → ℕ) (nothing : R) (li
   link_before = record { value = value; next = list (get_or rows i nothing) }
 
   -- the row's list has the number once more
-  row_list : (n : ℕ) → count n (listed (links ++ link_before ∷ []) (list row))
-      ≡ cond (eqb value n) 1 0 + count n (listed links (list (get_or rows i nothing)))
-  row_list n = ap (λ place. count n (listed (links ++ link_before ∷ []) place)) first
+  row_list : (n : ℕ) → count n (numbers_at (links ++ link_before ∷ []) (list row))
+      ≡ cond (eqb value n) 1 0 + count n (numbers_at links (list (get_or rows i nothing)))
+  row_list n = ap (λ place. count n (numbers_at (links ++ link_before ∷ []) place)) first
       ∙ (ap (count n) (listed_pushed links linked link_before (within i))
-      ∙ sum_by-cons (λ other. cond (eqb other n) 1 0) value (listed links (list (get_or rows i nothing))))
+      ∙ sum_by-cons (λ other. cond (eqb other n) 1 0) value (numbers_at links (list (get_or rows i nothing))))
 
-  other_list : (k n : ℕ) → count n (listed (links ++ link_before ∷ []) (list (get_or rows k nothing)))
-      ≡ count n (listed links (list (get_or rows k nothing)))
+  other_list : (k n : ℕ) → count n (numbers_at (links ++ link_before ∷ []) (list (get_or rows k nothing)))
+      ≡ count n (numbers_at links (list (get_or rows k nothing)))
   other_list k n = ap (count n) (listed_kept links linked link_before (list (get_or rows k nothing)) (within k))
 
-  pub lists_pushed : (k n : ℕ) → count n (listed (links ++ link_before ∷ []) (list (get_or (set rows i row) k nothing)))
-      ≡ count n (listed links (list (get_or rows k nothing))) + cond (eqb i k) (cond (eqb value n) 1 0) 0
+  pub lists_pushed : (k n : ℕ) → count n (numbers_at (links ++ link_before ∷ []) (list (get_or (set rows i row) k nothing)))
+      ≡ count n (numbers_at links (list (get_or rows k nothing))) + cond (eqb i k) (cond (eqb value n) 1 0) 0
   lists_pushed k n = elim (cases_eq k i) [
-    | inl e ↦ subst (λ x. count n (listed (links ++ link_before ∷ []) (list (get_or (set rows i row) x nothing)))
-        ≡ count n (listed links (list (get_or rows x nothing))) + cond (eqb i x) (cond (eqb value n) 1 0) 0) (sym e)
-        (let at = ap (λ (r : R). count n (listed (links ++ link_before ∷ []) (list r)))
+    | inl e ↦ subst (λ x. count n (numbers_at (links ++ link_before ∷ []) (list (get_or (set rows i row) x nothing)))
+        ≡ count n (numbers_at links (list (get_or rows x nothing))) + cond (eqb i x) (cond (eqb value n) 1 0) 0) (sym e)
+        (let at = ap (λ (r : R). count n (numbers_at (links ++ link_before ∷ []) (list r)))
         (get_or-set_same rows i row nothing there) in
         let is = row_list n in
         let one : ◌≡◌ {A = ℕ} (cond (eqb i i) (cond (eqb value n) 1 0) 0) (cond (eqb value n) 1 0) =
         ap (λ b. cond b (cond (eqb value n) 1 0) 0) (eq-eqb i i refl) in
         omega (arith, at, is, one))
-    | inr ne ↦ (let at = ap (λ (r : R). count n (listed (links ++ link_before ∷ []) (list r)))
+    | inr ne ↦ (let at = ap (λ (r : R). count n (numbers_at (links ++ link_before ∷ []) (list r)))
         (get_or-set_other rows i k row nothing ne) in
         let is = other_list k n in
         let none : ◌≡◌ {A = ℕ} (cond (eqb i k) (cond (eqb value n) 1 0) 0) 0 =
@@ -104,37 +104,37 @@ module _ {R : Type 0} (closed : R → Bool) (list : R → ℕ) (nothing : R) (li
   pub pool_pushed : IsLinked (links ++ link_before ∷ [])
   pool_pushed = linked_pushed links linked link_before (within i)
 
-  pub all_pushed : (n : ℕ) → sum_by (λ r. count n (listed (links ++ link_before ∷ []) (list r))) (set rows i row)
-      ≡ sum_by (λ r. count n (listed links (list r))) rows + cond (eqb value n) 1 0
+  pub all_pushed : (n : ℕ) → sum_by (λ r. count n (numbers_at (links ++ link_before ∷ []) (list r))) (set rows i row)
+      ≡ sum_by (λ r. count n (numbers_at links (list r))) rows + cond (eqb value n) 1 0
   all_pushed n =
-      let f : R → ℕ = λ r. count n (listed (links ++ link_before ∷ []) (list r)) in
-      let same = sum_same f (λ r. count n (listed links (list r))) nothing rows (λ k l. other_list k n) in
+      let f : R → ℕ = λ r. count n (numbers_at (links ++ link_before ∷ []) (list r)) in
+      let same = sum_same f (λ r. count n (numbers_at links (list r))) nothing rows (λ k l. other_list k n) in
       let changed = sum_by-set f rows i row nothing there in
       let is = row_list n in
       let was = other_list i n in
       omega (arith, same, changed, is, was)
 
   pub open_pushed : (n : ℕ) → (closed (get_or rows i nothing) ≡ closed row) ⊎ (list (get_or rows i nothing) ≡ 0)
-      → sum_by (λ r. cond (closed r) 0 (count n (listed (links ++ link_before ∷ []) (list r)))) (set rows i row)
-      ≡ sum_by (λ r. cond (closed r) 0 (count n (listed links (list r)))) rows + cond (eqb value n)
+      → sum_by (λ r. cond (closed r) 0 (count n (numbers_at (links ++ link_before ∷ []) (list r)))) (set rows i row)
+      ≡ sum_by (λ r. cond (closed r) 0 (count n (numbers_at links (list r)))) rows + cond (eqb value n)
       (cond (closed row) 0 1) 0
   open_pushed n why =
-      let f : R → ℕ = λ r. cond (closed r) 0 (count n (listed (links ++ link_before ∷ []) (list r))) in
-      let same = sum_same f (λ r. cond (closed r) 0 (count n (listed links (list r)))) nothing rows
+      let f : R → ℕ = λ r. cond (closed r) 0 (count n (numbers_at (links ++ link_before ∷ []) (list r))) in
+      let same = sum_same f (λ r. cond (closed r) 0 (count n (numbers_at links (list r)))) nothing rows
       (λ k l. ap (cond (closed (get_or rows k nothing)) 0) (other_list k n)) in
       let changed = sum_by-set f rows i row nothing there in
       let is : f row ≡ cond (closed row) 0 (cond (eqb value n) 1 0 + count n
-      (listed links (list (get_or rows i nothing)))) = ap (cond (closed row) 0) (row_list n) in
+      (numbers_at links (list (get_or rows i nothing)))) = ap (cond (closed row) 0) (row_list n) in
       let was : f (get_or rows i nothing) ≡ cond (closed (get_or rows i nothing)) 0
-      (count n (listed links (list (get_or rows i nothing)))) =
+      (count n (numbers_at links (list (get_or rows i nothing)))) =
       ap (cond (closed (get_or rows i nothing)) 0) (other_list i n) in
       change (closed (get_or rows i nothing)) (closed row) (eqb value n)
-      (sum_by f (set rows i row)) (sum_by (λ r. cond (closed r) 0 (count n (listed links (list r)))) rows)
-      (count n (listed links (list (get_or rows i nothing))))
+      (sum_by f (set rows i row)) (sum_by (λ r. cond (closed r) 0 (count n (numbers_at links (list r)))) rows)
+      (count n (numbers_at links (list (get_or rows i nothing))))
       (omega (arith, same, changed, is, was))
       (elim why [
         | inl e ↦ inl e
-        | inr e ↦ inr (ap (λ place. count n (listed links place)) e)
+        | inr e ↦ inr (ap (λ place. count n (numbers_at links place)) e)
       ])
 
 -- as a byte, one if two tests fail

@@ -13,12 +13,14 @@ use Rattle.decisions.specs.LiteralIndex.{literal_index}
 use Rattle.clause_counters.specs.declared.links.Link.{Link}
 use Rattle.clause_counters.specs.declared.groups.Standing.{Standing}
 use Rattle.clause_counters.specs.declared.groups.Group.{Group}
-use Rattle.clause_counters.specs.Links.{listed, count}
+use Rattle.clause_counters.specs.Links.{numbers_at, count}
 use Rattle.clause_counters.specs.FalsifiedHeap.{IsFirst}
-use Rattle.clause_counters.specs.Counted.{no_standing, standing_at, no_group, group_at, IsPlaced, clause_lists}
-use Rattle.clause_counters.specs.Counted.{IsJoined}
-use Rattle.clause_counters.specs.CounterState.{CounterState, Stood, counters_in, with_flag, nowhere, stood_at, IsSame}
-use Rattle.clause_counters.specs.GroupedClauses.{GroupedClauses, GroupClause, no_clause, Represents, grouped_clause, literals_of, has_index}
+use Rattle.clause_counters.specs.Counted.{no_standing, standing_at, no_group, group_at, CountsPlaces, clause_lists}
+use Rattle.clause_counters.specs.Counted.{CountsMembers}
+use Rattle.clause_counters.specs.CounterState.{CounterState, Stood, counters_in, with_flag, nowhere, stood_at}
+use Rattle.clause_counters.specs.CounterState.{IsSameButRoom}
+use Rattle.clause_counters.specs.GroupedClauses.{GroupedClauses, GroupClause, no_group_clause, Represents}
+use Rattle.clause_counters.specs.GroupedClauses.{grouped_clause, literals_of_group, has_index}
 use Rattle.clause_counters.specs.GroupedClauses.{once, is_falsified, IsFirstFalsified}
 use Rattle.clause_counters.proofs.ListLaws.{found, field_kept, sum_none, counted_there}
 use Rattle.clause_counters.proofs.CountLaws.{of_open_group}
@@ -27,15 +29,15 @@ use Rattle.clause_counters.proofs.FlagLaws.{stood_kept, of_open_literal, places_
 
 -- the clauses of a group that are kept
 pub clauses_kept : (members : List Link) (groups : List Group) (g : ℕ)
-    → get_or (map (listed members) (clause_lists groups)) g [] ≡ listed members (group_at groups g).clauses
+    → get_or (map (numbers_at members) (clause_lists groups)) g [] ≡ numbers_at members (group_at groups g).clauses
 clauses_kept members groups g = elim (cases_lt g (length groups)) [
-  | inl l ↦ get_or-map (listed members) (clause_lists groups) g 0 []
+  | inl l ↦ get_or-map (numbers_at members) (clause_lists groups) g 0 []
       (subst (λ n. g < n) (sym (length-map groups (λ (x : Group). x.clauses))) l)
-      ∙ ap (listed members) (get_or-map (λ (x : Group). x.clauses) groups g no_group 0 l)
-  | inr past ↦ get_or_past (map (listed members) (clause_lists groups)) g []
-      (subst (λ n. n ≤ g) (sym (length-map (clause_lists groups) (listed members)
+      ∙ ap (numbers_at members) (get_or-map (λ (x : Group). x.clauses) groups g no_group 0 l)
+  | inr past ↦ get_or_past (map (numbers_at members) (clause_lists groups)) g []
+      (subst (λ n. n ≤ g) (sym (length-map (clause_lists groups) (numbers_at members)
       ∙ length-map groups (λ (x : Group). x.clauses))) past)
-      ∙ ap (λ (x : Group). listed members x.clauses) (sym (get_or_past groups g no_group past))
+      ∙ ap (λ (x : Group). numbers_at members x.clauses) (sym (get_or_past groups g no_group past))
 ]
 
 -- one by a test
@@ -49,13 +51,13 @@ if_one false some = absurd (omega (arith, some))
 -- what fields keep, with what they show
 module _ (places : List Link) (ls : List Standing) (members : List Link) (groups : List Group) (lefts : List ℕ)
     (firsts : List ℕ) (has_room : Bool) (s : GroupedClauses)
-    (p : IsPlaced places ls groups) (j : IsJoined members groups lefts)
+    (p : CountsPlaces places ls groups) (j : CountsMembers members groups lefts)
     (shows : Represents (counters_in places ls members groups firsts has_room) s) where
   -- a literal's places, as they are shown
-  stands : (i g : ℕ) → places_at places ls i g ≡ once i (literals_of s g)
+  stands : (i g : ℕ) → places_at places ls i g ≡ once i (literals_of_group s g)
   stands i g = sym (ap (λ (x : Stood). count g x.groups) (stood_kept places ls i)) ∙ shows.stands i g
 
-  joins : (g c : ℕ) → count c (listed members (group_at groups g).clauses) ≡ count g (grouped_clause s c).groups
+  joins : (g c : ℕ) → count c (numbers_at members (group_at groups g).clauses) ≡ count g (grouped_clause s c).groups
   joins g c = sym (ap (count c) (clauses_kept members groups g)) ∙ shows.joins g c
 
   falses : (l : Lit) (g : ℕ) → 1 ≤ places_at places ls (literal_index l) g
@@ -68,23 +70,23 @@ module _ (places : List Link) (ls : List Standing) (members : List Link) (groups
   literal_within : (i g : ℕ) → 1 ≤ places_at places ls i g → i < length ls
   literal_within i g some = elim (cases_lt i (length ls)) [
     | inl l ↦ l
-    | inr past ↦ absurd (let none = ap (λ (x : Standing). count g (listed places x.groups))
+    | inr past ↦ absurd (let none = ap (λ (x : Standing). count g (numbers_at places x.groups))
         (get_or_past ls i no_standing past) in omega (arith, some, none))
   ]
 
   -- and so is a group with a clause
-  group_there : (g c : ℕ) → 1 ≤ count c (listed members (group_at groups g).clauses) → g < length groups
+  group_there : (g c : ℕ) → 1 ≤ count c (numbers_at members (group_at groups g).clauses) → g < length groups
   group_there g c some = elim (cases_lt g (length groups)) [
     | inl l ↦ l
-    | inr past ↦ absurd (let none = ap (λ (x : Group). count c (listed members x.clauses))
+    | inr past ↦ absurd (let none = ap (λ (x : Group). count c (numbers_at members x.clauses))
         (get_or_past groups g no_group past) in omega (arith, some, none))
   ]
 
   -- of a group whose number is zero each literal is false
-  group_false : (g : ℕ) → (group_at groups g).left ≡ 0 → list_all s.is_false (literals_of s g) ≡ true
-  group_false g none = list_all-from_AllPass s.is_false (literals_of s g) (λ k d l.
-      let lit : Lit = get_or (literals_of s g) k d in
-      let there = one_if (list_any_at (has_index (literal_index lit)) (literals_of s g) k d l
+  group_false : (g : ℕ) → (group_at groups g).left ≡ 0 → list_all s.is_false (literals_of_group s g) ≡ true
+  group_false g none = list_all-from_AllPass s.is_false (literals_of_group s g) (λ k d l.
+      let lit : Lit = get_or (literals_of_group s g) k d in
+      let there = one_if (list_any_at (has_index (literal_index lit)) (literals_of_group s g) k d l
       (eq-eqb (literal_index lit) (literal_index lit) refl)) in
       let same = stands (literal_index lit) g in
       let some : 1 ≤ places_at places ls (literal_index lit) g = omega (arith, there, same) in
@@ -100,18 +102,18 @@ module _ (places : List Link) (ls : List Standing) (members : List Link) (groups
       sym (falses lit g some) ∙ flag)
 
   -- and of a group whose literals are false the number is zero
-  false_group : (g : ℕ) → list_all s.is_false (literals_of s g) ≡ true → (group_at groups g).left ≡ 0
-  false_group g all = p.counts g ∙ sum_none (λ (x : Standing). cond x.is_false 0 (count g (listed places x.groups)))
+  false_group : (g : ℕ) → list_all s.is_false (literals_of_group s g) ≡ true → (group_at groups g).left ≡ 0
+  false_group g all = p.counts g ∙ sum_none (λ (x : Standing). cond x.is_false 0 (count g (numbers_at places x.groups)))
       no_standing ls (λ i l.
       (elim (cases_lt 0 (places_at places ls i g)) [
         | inl some ↦
             let same = stands i g in
-            let at = Any-from_list_any (has_index i) (literals_of s g)
-            (if_one (list_any (has_index i) (literals_of s g)) (omega (arith, same, some))) in
+            let at = Any-from_list_any (has_index i) (literals_of_group s g)
+            (if_one (list_any (has_index i) (literals_of_group s g)) (omega (arith, same, some))) in
             let lit : Lit = at.1 in
             let is : literal_index lit ≡ i = eqb-true (literal_index lit) i at.4 in
             let false' : s.is_false lit ≡ true = sym (ap s.is_false at.3)
-            ∙ AllPass-from_list_all s.is_false (literals_of s g) all at.0 lit at.2 in
+            ∙ AllPass-from_list_all s.is_false (literals_of_group s g) all at.0 lit at.2 in
             let flag : (standing_at ls i).is_false ≡ true =
             subst (λ n. (standing_at ls n).is_false ≡ true) is
             (falses lit g (subst (λ n. 1 ≤ places_at places ls n g) (sym is) (omega (arith, some))) ∙ false') in
@@ -125,12 +127,12 @@ module _ (places : List Link) (ls : List Standing) (members : List Link) (groups
 
   -- a clause's number is zero if it is falsified, and only then
   pub zero_falsified : (c : ℕ) → get_or lefts c 0 ≡ 0 → is_falsified s c ≡ true
-  zero_falsified c zero' = list_all-from_AllPass (λ g. list_all s.is_false (literals_of s g))
+  zero_falsified c zero' = list_all-from_AllPass (λ g. list_all s.is_false (literals_of_group s g))
       (grouped_clause s c).groups (λ k d l.
       let g : ℕ = get_or (grouped_clause s c).groups k d in
       let there = counted_there (λ other. eqb other g) d (grouped_clause s c).groups k l (eq-eqb g g refl) in
       let same = joins g c in
-      let some : 1 ≤ count c (listed members (group_at groups g).clauses) = omega (arith, there, same) in
+      let some : 1 ≤ count c (numbers_at members (group_at groups g).clauses) = omega (arith, there, same) in
       let within = group_there g c some in
       let counts = j.counts c in
       group_false g (elim (cases_eq (group_at groups g).left 0) [
@@ -141,21 +143,21 @@ module _ (places : List Link) (ls : List Standing) (members : List Link) (groups
 
   pub falsified_zero : (c : ℕ) → is_falsified s c ≡ true → get_or lefts c 0 ≡ 0
   falsified_zero c all = j.counts c ∙ sum_none (λ (x : Group).
-      cond (eqb x.left 0) 0 (count c (listed members x.clauses))) no_group groups (λ g l.
-      (elim (cases_lt 0 (count c (listed members (group_at groups g).clauses))) [
+      cond (eqb x.left 0) 0 (count c (numbers_at members x.clauses))) no_group groups (λ g l.
+      (elim (cases_lt 0 (count c (numbers_at members (group_at groups g).clauses))) [
         | inl some ↦
             let same = joins g c in
             let at = found (λ other. eqb other g) 0 (grouped_clause s c).groups (omega (arith, same, some)) in
             let is : get_or (grouped_clause s c).groups at.0 0 ≡ g =
             eqb-true (get_or (grouped_clause s c).groups at.0 0) g at.2 in
-            let false' : list_all s.is_false (literals_of s g) ≡ true =
-            subst (λ n. list_all s.is_false (literals_of s n) ≡ true) is
-            (AllPass-from_list_all (λ h. list_all s.is_false (literals_of s h))
+            let false' : list_all s.is_false (literals_of_group s g) ≡ true =
+            subst (λ n. list_all s.is_false (literals_of_group s n) ≡ true) is
+            (AllPass-from_list_all (λ h. list_all s.is_false (literals_of_group s h))
             (grouped_clause s c).groups all at.0 0 at.1) in
-            ap (λ n. cond (eqb n 0) 0 (count c (listed members (group_at groups g).clauses))) (false_group g false')
+            ap (λ n. cond (eqb n 0) 0 (count c (numbers_at members (group_at groups g).clauses))) (false_group g false')
         | inr none ↦
             (elim (eqb (group_at groups g).left 0) as (λ b. cond b 0
-            (count c (listed members (group_at groups g).clauses)) ≡ 0) [
+            (count c (numbers_at members (group_at groups g).clauses)) ≡ 0) [
               | true ↦ refl
               | false ↦ omega (arith, none)
             ])
@@ -164,10 +166,10 @@ module _ (places : List Link) (ls : List Standing) (members : List Link) (groups
   -- the first clause of a clause's parent, as it is shown
   first_of_shown : (c : ℕ) → get_or firsts c 0 ≡ (grouped_clause s c).first_of_parent
   first_of_shown c = ap (λ ps. get_or ps c 0) shows.firsts ∙ (elim (cases_lt c (length s.clauses)) [
-    | inl l ↦ get_or-map (λ (x : GroupClause). x.first_of_parent) s.clauses c no_clause 0 l
+    | inl l ↦ get_or-map (λ (x : GroupClause). x.first_of_parent) s.clauses c no_group_clause 0 l
     | inr past ↦ get_or_past (map (λ (x : GroupClause). x.first_of_parent) s.clauses) c 0
         (subst (λ n. n ≤ c) (sym (length-map s.clauses (λ (x : GroupClause). x.first_of_parent))) past)
-        ∙ sym (ap (λ (x : GroupClause). x.first_of_parent) (get_or_past s.clauses c no_clause past))
+        ∙ sym (ap (λ (x : GroupClause). x.first_of_parent) (get_or_past s.clauses c no_group_clause past))
   ])
 
   -- the clauses whose number is zero are the falsified ones
@@ -238,7 +240,7 @@ shows_told v s l b is_false says shows = record {
 }
 
 -- what is shown doesn't depend on the room
-pub shows_room : (old new : CounterState) (s : GroupedClauses) → IsSame old new → Represents old s → Represents new s
+pub shows_room : (old new : CounterState) (s : GroupedClauses) → IsSameButRoom old new → Represents old s → Represents new s
 shows_room old new s same shows = subst (λ v. Represents v s) (sym same) (record {
   size = shows.size;
   firsts = shows.firsts;

@@ -5,7 +5,7 @@ use Rattle.std.specs.List.{count_by}
 use Rattle.clause_counters.specs.declared.links.Link.{Link}
 use Rattle.clause_counters.specs.declared.groups.Standing.{Standing}
 use Rattle.clause_counters.specs.declared.groups.Group.{Group}
-use Rattle.clause_counters.specs.Links.{link_at, IsLinked, listed, count}
+use Rattle.clause_counters.specs.Links.{link_at, IsLinked, numbers_at, count}
 use Rattle.clause_counters.specs.Counted.{standing_at, group_at}
 
 -- each literal's list lies in the pool
@@ -55,7 +55,7 @@ joined_at members groups group =
 
 -- each literal with a place is false as the function says
 abbrev pub AreFlagged : List Link → List Standing → (ℕ → Bool) → Type 0
-AreFlagged places literals is_false = (l g : ℕ) → 1 ≤ count g (listed places (standing_at literals l).groups)
+AreFlagged places literals is_false = (l g : ℕ) → 1 ≤ count g (numbers_at places (standing_at literals l).groups)
     → (standing_at literals l).is_false ≡ is_false l
 
 -- how many of the groups aren't false

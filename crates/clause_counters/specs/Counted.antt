@@ -2,7 +2,7 @@
 use Rattle.std.specs.Prelude.{◌≡◌, ℕ, ◌<◌, ◌≤◌, ◌^◌, false, if◌then◌else◌, ◌==◌, List, length, map}
 use Rattle.std.specs.Prelude.{slice_index, slice_index_or, slice_set}
 use Rattle.std.specs.List.{sum_by}
-use Rattle.clause_counters.specs.Links.{IsLinked, listed, count}
+use Rattle.clause_counters.specs.Links.{IsLinked, numbers_at, count}
 use Rattle.clause_counters.specs.declared.links.Link.{Link}
 use Rattle.clause_counters.specs.declared.groups.Standing.{Standing}
 use Rattle.clause_counters.specs.declared.groups.Group.{Group}
@@ -21,8 +21,8 @@ abbrev pub group_at : List Group → ℕ → Group
 group_at groups number = slice_index_or groups number no_group
 
 -- the group with this number has this many places whose literals aren't false
-abbrev pub counted : ℕ → ℕ → List Group → List Group
-counted left number groups = slice_set groups number (record (group_at groups number) { left = left })
+abbrev pub with_left : ℕ → ℕ → List Group → List Group
+with_left left number groups = slice_set groups number (record (group_at groups number) { left = left })
 
 -- the list of each group's clauses
 abbrev pub clause_lists : List Group → List ℕ
@@ -30,13 +30,13 @@ clause_lists groups = map (λ g. g.clauses) groups
 
 -- how many members of all groups are the clause, and how many of these are of groups that aren't false
 abbrev pub all_members : List Link → List Group → ℕ → ℕ
-all_members members groups c = sum_by (λ g. count c (listed members g.clauses)) groups
+all_members members groups c = sum_by (λ g. count c (numbers_at members g.clauses)) groups
 
 abbrev pub open_members : List Link → List Group → ℕ → ℕ
-open_members members groups c = sum_by (λ g. if g.left == 0 then 0 else count c (listed members g.clauses)) groups
+open_members members groups c = sum_by (λ g. if g.left == 0 then 0 else count c (numbers_at members g.clauses)) groups
 
 -- each clause's number is that of its groups that aren't false
-pub record IsJoined (members : List Link) (groups : List Group) (lefts : List ℕ) : Type 0 where
+pub record CountsMembers (members : List Link) (groups : List Group) (lefts : List ℕ) : Type 0 where
   pub linked : IsLinked members
   pub within : (g : ℕ) → (group_at groups g).clauses ≤ length members
   pub known : (c : ℕ) → length lefts ≤ c → all_members members groups c ≡ 0
@@ -45,13 +45,13 @@ pub record IsJoined (members : List Link) (groups : List Group) (lefts : List �
 
 -- how many places the group has, and how many of these hold a literal that isn't false
 abbrev pub all_places : List Link → List Standing → ℕ → ℕ
-all_places places literals g = sum_by (λ l. count g (listed places l.groups)) literals
+all_places places literals g = sum_by (λ l. count g (numbers_at places l.groups)) literals
 
 abbrev pub open_places : List Link → List Standing → ℕ → ℕ
-open_places places literals g = sum_by (λ l. if l.is_false then 0 else count g (listed places l.groups)) literals
+open_places places literals g = sum_by (λ l. if l.is_false then 0 else count g (numbers_at places l.groups)) literals
 
 -- each group's number is that of its places whose literals aren't false
-pub record IsPlaced (places : List Link) (literals : List Standing) (groups : List Group) : Type 0 where
+pub record CountsPlaces (places : List Link) (literals : List Standing) (groups : List Group) : Type 0 where
   pub linked : IsLinked places
   pub within : (l : ℕ) → (standing_at literals l).groups ≤ length places
   pub known : (g : ℕ) → length groups ≤ g → all_places places literals g ≡ 0

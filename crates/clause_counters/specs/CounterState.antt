@@ -4,7 +4,7 @@ use Rattle.std.specs.Prelude.{slice_index_or, slice_set}
 use Rattle.clause_counters.specs.declared.links.Link.{Link}
 use Rattle.clause_counters.specs.declared.groups.Standing.{Standing}
 use Rattle.clause_counters.specs.declared.groups.Group.{Group}
-use Rattle.clause_counters.specs.Links.{listed}
+use Rattle.clause_counters.specs.Links.{numbers_at}
 use Rattle.clause_counters.specs.Counted.{clause_lists}
 
 -- a literal: whether it is false, and the groups in which it stands
@@ -22,12 +22,12 @@ pub record CounterState : Type 0 where
 
 -- the state in pools, literals and groups
 abbrev pub stood_in : List Link → Standing → Stood
-stood_in places l = record { is_false = l.is_false; groups = listed places l.groups }
+stood_in places l = record { is_false = l.is_false; groups = numbers_at places l.groups }
 
 abbrev pub counters_in : List Link → List Standing → List Link → List Group → List ℕ → Bool → CounterState
 counters_in places literals members groups firsts has_room = record {
   literals = map (stood_in places) literals;
-  groups = map (listed members) (clause_lists groups);
+  groups = map (numbers_at members) (clause_lists groups);
   firsts = firsts;
   has_room = has_room;
 }
@@ -43,8 +43,8 @@ nowhere = record { is_false = false; groups = [] }
 abbrev pub stood_at : CounterState → ℕ → Stood
 stood_at v index = slice_index_or v.literals index nowhere
 
-abbrev pub clauses_of : CounterState → ℕ → List ℕ
-clauses_of v group = slice_index_or v.groups group []
+abbrev pub clauses_of_group : CounterState → ℕ → List ℕ
+clauses_of_group v group = slice_index_or v.groups group []
 
 -- the literal at this index becomes false, or not false; behind the last literal nothing changes
 abbrev pub with_flag : Bool → ℕ → CounterState → CounterState
@@ -52,5 +52,5 @@ with_flag mark index v =
     record v { literals = slice_set v.literals index (record (stood_at v index) { is_false = mark }) }
 
 -- the same state, whatever there is room for
-abbrev pub IsSame : CounterState → CounterState → Type 0
-IsSame old new = new ≡ record old { has_room = new.has_room }
+abbrev pub IsSameButRoom : CounterState → CounterState → Type 0
+IsSameButRoom old new = new ≡ record old { has_room = new.has_room }

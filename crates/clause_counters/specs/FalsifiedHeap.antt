@@ -18,11 +18,11 @@ pub record Tallies : Type 0 where
   pub has_room : Bool
 
 -- what stands past the last clause
-abbrev pub no_clause : Clause
-no_clause = record { first_of_parent = 0; left = 0; is_in_heap = false }
+abbrev pub no_heap_clause : Clause
+no_heap_clause = record { first_of_parent = 0; left = 0; is_in_heap = false }
 
-abbrev pub clause_at : List Clause → ℕ → Clause
-clause_at clauses number = slice_index_or clauses number no_clause
+abbrev pub heap_clause : List Clause → ℕ → Clause
+heap_clause clauses number = slice_index_or clauses number no_heap_clause
 
 -- how many groups of each clause aren't false, and the first clauses of their parents
 abbrev pub lefts_of : List Clause → List ℕ
@@ -43,17 +43,17 @@ tallies_of clauses capacity heap_capacity = record {
 }
 
 -- how positions compare, and in a heap that has the least on top
-abbrev pub position_cmp : Position → Position → Ordering
-position_cmp a b = ordering_then (nat_cmp a.first_of_parent b.first_of_parent) (nat_cmp a.number b.number)
+abbrev pub heap_position_cmp : Position → Position → Ordering
+heap_position_cmp a b = ordering_then (nat_cmp a.first_of_parent b.first_of_parent) (nat_cmp a.number b.number)
 
 abbrev pub heap_cmp : Reverse Position → Reverse Position → Ordering
-heap_cmp a b = position_cmp b.0 a.0
+heap_cmp a b = heap_position_cmp b.0 a.0
 
 -- the heap holds each clause that is marked so, once and with its position, and has room for all clauses
 pub record IsHeld (clauses : List Clause) (entries : List (Reverse Position)) (capacity : ℕ) : Type 0 where
   pub heap : IsHeap heap_cmp entries
-  pub once : (c : ℕ) → count_by (λ e. e.0.number == c) entries ≡ (if (clause_at clauses c).is_in_heap then 1 else 0)
-  pub placed : All (λ e. e.0.first_of_parent ≡ (clause_at clauses e.0.number).first_of_parent) entries
+  pub once : (c : ℕ) → count_by (λ e. e.0.number == c) entries ≡ (if (heap_clause clauses c).is_in_heap then 1 else 0)
+  pub placed : All (λ e. e.0.first_of_parent ≡ (heap_clause clauses e.0.number).first_of_parent) entries
   pub counted : length entries ≡ count_by (λ c. c.is_in_heap) clauses
   pub room : length clauses ≤ capacity
   pub few : length clauses ≤ 2 ^ 32
@@ -61,8 +61,8 @@ pub record IsHeld (clauses : List Clause) (entries : List (Reverse Position)) (c
 -- and each falsified clause is marked
 pub record IsFalsifiedHeap (clauses : List Clause) (entries : List (Reverse Position)) (capacity : ℕ) : Type 0 where
   pub held : IsHeld clauses entries capacity
-  pub falsified : (c : ℕ) → c < length clauses → (clause_at clauses c).left ≡ 0
-      → (clause_at clauses c).is_in_heap ≡ true
+  pub falsified : (c : ℕ) → c < length clauses → (heap_clause clauses c).left ≡ 0
+      → (heap_clause clauses c).is_in_heap ≡ true
 
 -- the answer is the first of the falsified clauses, of which each group is false
 abbrev pub IsFirst : List ℕ → List ℕ → Option ℕ → Type 0
@@ -70,8 +70,8 @@ IsFirst lefts firsts answer =
     IsFirstOf (slice_index firsts) (length lefts) (λ c. slice_index lefts c == 0) answer
 
 -- the clause is marked so
-abbrev pub marked : Bool → ℕ → List Clause → List Clause
-marked mark number clauses = slice_set clauses number (record (clause_at clauses number) { is_in_heap = mark })
+abbrev pub with_mark : Bool → ℕ → List Clause → List Clause
+with_mark mark number clauses = slice_set clauses number (record (heap_clause clauses number) { is_in_heap = mark })
 
 -- the entry is the first, and in a heap no other is above it
 abbrev pub IsTop : List (Reverse Position) → Position → Type 0
@@ -80,4 +80,4 @@ IsTop entries top = (0 < length entries) × (slice_index_or entries 0 (record { 
 
 -- the clause with this number has this many groups that aren't false
 abbrev pub tallied : ℕ → ℕ → List Clause → List Clause
-tallied left number clauses = slice_set clauses number (record (clause_at clauses number) { left = left })
+tallied left number clauses = slice_set clauses number (record (heap_clause clauses number) { left = left })

@@ -5,7 +5,7 @@ use Rattle.std.specs.List.{All, list_any, list_all}
 use Rattle.decisions.specs.Literals.{Lit, Pos}
 use Rattle.decisions.specs.LiteralIndex.{literal_index}
 use Rattle.clause_counters.specs.Links.{count}
-use Rattle.clause_counters.specs.CounterState.{CounterState, stood_at, clauses_of}
+use Rattle.clause_counters.specs.CounterState.{CounterState, stood_at, clauses_of_group}
 use Rattle.clause_counters.specs.First.{IsFirstOf}
 
 -- a clause as callers see it: the numbers of its groups, and that of the first clause of its parent
@@ -19,14 +19,14 @@ pub record GroupedClauses : Type 0 where
   pub clauses : List GroupClause
   pub is_false : Lit → Bool
 
-abbrev pub no_clause : GroupClause
-no_clause = record { groups = []; first_of_parent = 0 }
+abbrev pub no_group_clause : GroupClause
+no_group_clause = record { groups = []; first_of_parent = 0 }
 
-abbrev pub literals_of : GroupedClauses → ℕ → List Lit
-literals_of s group = slice_index_or s.groups group []
+abbrev pub literals_of_group : GroupedClauses → ℕ → List Lit
+literals_of_group s group = slice_index_or s.groups group []
 
 abbrev pub grouped_clause : GroupedClauses → ℕ → GroupClause
-grouped_clause s clause = slice_index_or s.clauses clause no_clause
+grouped_clause s clause = slice_index_or s.clauses clause no_group_clause
 
 -- whether it is the literal with this index
 abbrev pub has_index : ℕ → Lit → Bool
@@ -40,8 +40,9 @@ once index literals = if list_any (has_index index) literals then 1 else 0
 pub record Represents (v : CounterState) (s : GroupedClauses) : Type 0 where
   pub size : length v.groups ≡ length s.groups
   pub firsts : v.firsts ≡ map (λ c. c.first_of_parent) s.clauses
-  pub stands : (index group : ℕ) → count group (stood_at v index).groups ≡ once index (literals_of s group)
-  pub joins : (group clause : ℕ) → count clause (clauses_of v group) ≡ count group (grouped_clause s clause).groups
+  pub stands : (index group : ℕ) → count group (stood_at v index).groups ≡ once index (literals_of_group s group)
+  pub joins : (group clause : ℕ) → count clause (clauses_of_group v group)
+      ≡ count group (grouped_clause s clause).groups
   pub falses : (l : Lit) (group : ℕ) → 1 ≤ count group (stood_at v (literal_index l)).groups
       → (stood_at v (literal_index l)).is_false ≡ s.is_false l
 
@@ -85,7 +86,7 @@ row_literals lists = flat_map (map Pos) lists
 
 -- each literal of each group of the clause is false
 abbrev pub is_falsified : GroupedClauses → ℕ → Bool
-is_falsified s clause = list_all (λ g. list_all s.is_false (literals_of s g)) (grouped_clause s clause).groups
+is_falsified s clause = list_all (λ g. list_all s.is_false (literals_of_group s g)) (grouped_clause s clause).groups
 
 -- the answer is the first of the falsified clauses
 abbrev pub IsFirstFalsified : GroupedClauses → Option ℕ → Type 0

@@ -21,8 +21,8 @@ listed_within (suc most) links (suc place) =
     (link_at links place).value ∷ listed_within most links (link_at links place).next
 
 -- the numbers of the list
-abbrev pub listed : List Link → ℕ → List ℕ
-listed links list = listed_within list links list
+abbrev pub numbers_at : List Link → ℕ → List ℕ
+numbers_at links list = listed_within list links list
 
 -- how often a number is among others
 abbrev pub count : ℕ → List ℕ → ℕ

@@ -8,7 +8,7 @@ ghost use Rattle.std.specs.List.{All};
 ghost use Rattle.decisions.specs.Decisions.{values_in};
 ghost use Rattle.decisions.specs.Literals.{is_false_literal};
 ghost use Rattle.decisions.specs.LiteralIndex.{literal_index};
-ghost use Rattle.clause_counters.specs.Links.{IsLinked, listed, count};
+ghost use Rattle.clause_counters.specs.Links.{IsLinked, numbers_at, count};
 ghost use Rattle.clause_counters.specs.Counted.{standing_at, group_at, all_places};
 ghost use Rattle.clause_counters.specs.Counted.{open_places, all_members, open_members};
 ghost use Rattle.clause_counters.specs.GroupedClauses.{once};
@@ -138,8 +138,8 @@ pub(crate) fn place_literals<A: Allocator + Copy>(
     requires room { vec_len places.old + length list.now ≤ vec_capacity places.old }
     requires few { vec_len places.old + length list.now < 2 ^ 32 }
     ensures standing { IsStanding places.new.items literals.new.items }
-    ensures lists { (i g : ℕ) → count g (listed places.new.items (standing_at literals.new.items i).groups) ≡
-        count g (listed places.old.items (standing_at literals.old.items i).groups)
+    ensures lists { (i g : ℕ) → count g (numbers_at places.new.items (standing_at literals.new.items i).groups) ≡
+        count g (numbers_at places.old.items (standing_at literals.old.items i).groups)
         + (if group == g then once i list.now else 0) }
     ensures all { (g : ℕ) → all_places places.new.items literals.new.items g ≤
         all_places places.old.items literals.old.items g + (if group == g then length list.now else 0) }
@@ -170,8 +170,8 @@ pub(crate) fn join_groups<A: Allocator + Copy>(
     requires room { vec_len members.old + length list.now ≤ vec_capacity members.old }
     requires few { vec_len members.old + length list.now < 2 ^ 32 }
     ensures member { IsMember members.new.items groups.new.items }
-    ensures lists { (g c : ℕ) → count c (listed members.new.items (group_at groups.new.items g).clauses) ≡
-        count c (listed members.old.items (group_at groups.old.items g).clauses)
+    ensures lists { (g c : ℕ) → count c (numbers_at members.new.items (group_at groups.new.items g).clauses) ≡
+        count c (numbers_at members.old.items (group_at groups.old.items g).clauses)
         + (if clause == c then count g list.now else 0) }
     ensures all { (c : ℕ) → all_members members.new.items groups.new.items c ≡
         all_members members.old.items groups.old.items c + (if clause == c then length list.now else 0) }

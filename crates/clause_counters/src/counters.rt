@@ -5,7 +5,7 @@ ghost use Rattle.std.specs.List.{All};
 ghost use Rattle.typed_ids.specs.declared.error.StoreError.TheVariants.{OutOfMemory};
 ghost use Rattle.decisions.specs.Decisions.{values_in};
 ghost use Rattle.decisions.specs.Literals.{Lit, is_false_literal};
-ghost use Rattle.clause_counters.specs.CounterState.{with_flag, IsSame};
+ghost use Rattle.clause_counters.specs.CounterState.{with_flag, IsSameButRoom};
 ghost use Rattle.clause_counters.specs.GroupedClauses.{GroupedClauses, Represents, StillRepresents};
 ghost use Rattle.clause_counters.specs.GroupedClauses.{empty, AddsGroup, AddsClause, row_literals};
 ghost use Rattle.clause_counters.specs.GroupedClauses.{with_false, with_undecided, IsFirstFalsified};
@@ -41,7 +41,7 @@ pub struct ClauseCounters<A: Allocator + Copy> {
 /// What is kept: contracts say what it shows.
 impl<A: Allocator + Copy> Model for ClauseCounters<A> {
     ghost use Rattle.std.specs.Prelude.{◌≡◌, ◌&&◌, length, vec_capacity};
-    ghost use Rattle.clause_counters.specs.Counted.{IsPlaced, IsJoined};
+    ghost use Rattle.clause_counters.specs.Counted.{CountsPlaces, CountsMembers};
     ghost use Rattle.clause_counters.specs.CounterState.{CounterState, counters_in, fit_three};
 
     ghost Value = { CounterState };
@@ -49,8 +49,8 @@ impl<A: Allocator + Copy> Model for ClauseCounters<A> {
     ghost view = { λ f. counters_in f.places.items f.literals.items f.members.items f.groups.items f.falsified.firsts
         (f.falsified.has_room && fit_three (length f.members.items) (vec_capacity f.members)) };
 
-    ghost invariant = { λ f. IsPlaced f.places.items f.literals.items f.groups.items
-        × IsJoined f.members.items f.groups.items f.falsified.lefts
+    ghost invariant = { λ f. CountsPlaces f.places.items f.literals.items f.groups.items
+        × CountsMembers f.members.items f.groups.items f.falsified.lefts
         × (length f.falsified.lefts ≡ length f.falsified.firsts) };
 }
 
@@ -200,7 +200,7 @@ impl<A: Allocator + Copy> ClauseCounters<A> {
 
     /// The literal with this index becomes false.
     fn close(&mut self, index: usize)
-        ensures { IsSame (with_flag true index self.old) self.new }
+        ensures { IsSameButRoom (with_flag true index self.old) self.new }
     {
         if index >= self.literals.len() {
             return;
@@ -224,7 +224,7 @@ impl<A: Allocator + Copy> ClauseCounters<A> {
 
     /// The literal with this index becomes undecided.
     fn reopen(&mut self, index: usize)
-        ensures { IsSame (with_flag false index self.old) self.new }
+        ensures { IsSameButRoom (with_flag false index self.old) self.new }
     {
         if index >= self.literals.len() {
             return;

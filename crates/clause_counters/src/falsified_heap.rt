@@ -4,7 +4,7 @@ ghost use Rattle.std.specs.Prelude.{true, false, IsTrue, OnOk, IfErr, IfSome, If
 ghost use Rattle.std.specs.BinaryHeap.{heap_items, heap_capacity, heap_len};
 ghost use Rattle.typed_ids.specs.declared.error.StoreError.TheVariants.{OutOfMemory};
 ghost use Rattle.clause_counters.specs.FalsifiedHeap.{IsHeld, IsFalsifiedHeap, IsFirst, IsTop};
-ghost use Rattle.clause_counters.specs.FalsifiedHeap.{clause_at, lefts_of, firsts_of, marked, tallied};
+ghost use Rattle.clause_counters.specs.FalsifiedHeap.{heap_clause, lefts_of, firsts_of, with_mark, tallied};
 
 use crate::links::ID_LIMIT;
 use crate::position::Position;
@@ -143,9 +143,9 @@ fn insert_entry<A: Allocator + Copy>(
 )
     requires held { IsHeld clauses.old.items (heap_items heap.old) (heap_capacity heap.old) }
     requires within { clause < vec_len clauses.old }
-    requires absent { (clause_at clauses.old.items clause).is_in_heap ≡ false }
+    requires absent { (heap_clause clauses.old.items clause).is_in_heap ≡ false }
     ensures held { IsHeld clauses.new.items (heap_items heap.new) (heap_capacity heap.new) }
-    ensures marked { clauses.new.items ≡ marked true clause clauses.old.items }
+    ensures marked { clauses.new.items ≡ with_mark true clause clauses.old.items }
 {
     let at = &mut clauses[clause as usize];
     at.is_in_heap = true;
@@ -165,7 +165,7 @@ fn remove_top<A: Allocator + Copy>(
     requires held { IsHeld clauses.old.items (heap_items heap.old) (heap_capacity heap.old) }
     requires top { IsTop (heap_items heap.old) top }
     ensures held { IsHeld clauses.new.items (heap_items heap.new) (heap_capacity heap.new) }
-    ensures marked { clauses.new.items ≡ marked false top.number clauses.old.items }
+    ensures marked { clauses.new.items ≡ with_mark false top.number clauses.old.items }
     ensures len { heap_len heap.new + 1 ≡ heap_len heap.old }
 {
     let _ = heap.pop();

@@ -1,7 +1,7 @@
 //! Literals, groups, and what a group that becomes false or isn't false any more does to its clauses.
 ghost use Rattle.std.specs.Prelude.{◌≡◌, ◌<◌, ◌≤◌, ◌+◌, ◌-◌, ◌^◌, ℕ, length, slice_index, slice_set, vec_len};
-ghost use Rattle.clause_counters.specs.Links.{IsLinked, listed, count};
-ghost use Rattle.clause_counters.specs.Counted.{IsJoined, group_at, counted};
+ghost use Rattle.clause_counters.specs.Links.{IsLinked, numbers_at, count};
+ghost use Rattle.clause_counters.specs.Counted.{CountsMembers, group_at, with_left};
 
 use crate::falsified_heap::FalsifiedHeap;
 use crate::links::Link;
@@ -33,9 +33,9 @@ pub(crate) fn lower_group<A: Allocator + Copy>(
     group: u32,
 )
     requires left { 1 ≤ (group_at groups.old.items group).left }
-    requires joined { IsJoined members.now groups.old.items falsified.old.lefts }
-    ensures groups { groups.new.items ≡ counted ((group_at groups.old.items group).left - 1) group groups.old.items }
-    ensures joined { IsJoined members.now groups.new.items falsified.new.lefts }
+    requires joined { CountsMembers members.now groups.old.items falsified.old.lefts }
+    ensures groups { groups.new.items ≡ with_left ((group_at groups.old.items group).left - 1) group groups.old.items }
+    ensures joined { CountsMembers members.now groups.new.items falsified.new.lefts }
     ensures firsts { falsified.new.firsts ≡ falsified.old.firsts }
     ensures clauses { length falsified.new.lefts ≡ length falsified.old.lefts }
 {
@@ -55,9 +55,9 @@ pub(crate) fn raise_group<A: Allocator + Copy>(
 )
     requires within { group < vec_len groups.old }
     requires few { (group_at groups.old.items group).left + 1 < 2 ^ 32 }
-    requires joined { IsJoined members.now groups.old.items falsified.old.lefts }
-    ensures groups { groups.new.items ≡ counted ((group_at groups.old.items group).left + 1) group groups.old.items }
-    ensures joined { IsJoined members.now groups.new.items falsified.new.lefts }
+    requires joined { CountsMembers members.now groups.old.items falsified.old.lefts }
+    ensures groups { groups.new.items ≡ with_left ((group_at groups.old.items group).left + 1) group groups.old.items }
+    ensures joined { CountsMembers members.now groups.new.items falsified.new.lefts }
     ensures firsts { falsified.new.firsts ≡ falsified.old.firsts }
     ensures clauses { length falsified.new.lefts ≡ length falsified.old.lefts }
 {
@@ -72,9 +72,9 @@ pub(crate) fn raise_group<A: Allocator + Copy>(
 fn lower_clauses<A: Allocator + Copy>(members: &[Link], falsified: &mut FalsifiedHeap<A>, list: u32)
     requires linked { IsLinked members.now }
     requires within { list ≤ length members.now }
-    requires enough { (c : ℕ) → count c (listed members.now list) ≤ slice_index falsified.old.lefts c }
+    requires enough { (c : ℕ) → count c (numbers_at members.now list) ≤ slice_index falsified.old.lefts c }
     ensures lefts { (c : ℕ) →
-        slice_index falsified.new.lefts c + count c (listed members.now list) ≡ slice_index falsified.old.lefts c }
+        slice_index falsified.new.lefts c + count c (numbers_at members.now list) ≡ slice_index falsified.old.lefts c }
     ensures firsts { falsified.new.firsts ≡ falsified.old.firsts }
     ensures clauses { length falsified.new.lefts ≡ length falsified.old.lefts }
 {
@@ -90,10 +90,10 @@ fn lower_clauses<A: Allocator + Copy>(members: &[Link], falsified: &mut Falsifie
 fn raise_clauses<A: Allocator + Copy>(members: &[Link], falsified: &mut FalsifiedHeap<A>, list: u32)
     requires linked { IsLinked members.now }
     requires within { list ≤ length members.now }
-    requires known { (c : ℕ) → length falsified.old.lefts ≤ c → count c (listed members.now list) ≡ 0 }
-    requires few { (c : ℕ) → slice_index falsified.old.lefts c + count c (listed members.now list) < 2 ^ 8 }
+    requires known { (c : ℕ) → length falsified.old.lefts ≤ c → count c (numbers_at members.now list) ≡ 0 }
+    requires few { (c : ℕ) → slice_index falsified.old.lefts c + count c (numbers_at members.now list) < 2 ^ 8 }
     ensures lefts { (c : ℕ) →
-        slice_index falsified.new.lefts c ≡ slice_index falsified.old.lefts c + count c (listed members.now list) }
+        slice_index falsified.new.lefts c ≡ slice_index falsified.old.lefts c + count c (numbers_at members.now list) }
     ensures firsts { falsified.new.firsts ≡ falsified.old.firsts }
     ensures clauses { length falsified.new.lefts ≡ length falsified.old.lefts }
 {

@@ -1,7 +1,7 @@
 //! Walks over the groups in which a literal stands.
 ghost use Rattle.std.specs.Prelude.{◌≡◌, ◌<◌, ◌≤◌, ◌+◌, ◌^◌, ℕ, length, map, vec_len};
-ghost use Rattle.clause_counters.specs.Links.{IsLinked, listed, count};
-ghost use Rattle.clause_counters.specs.Counted.{IsJoined, group_at, clause_lists};
+ghost use Rattle.clause_counters.specs.Links.{IsLinked, numbers_at, count};
+ghost use Rattle.clause_counters.specs.Counted.{CountsMembers, group_at, clause_lists};
 
 use crate::falsified_heap::FalsifiedHeap;
 use crate::groups::{Group, lower_group, raise_group};
@@ -18,11 +18,11 @@ pub(crate) fn lower_groups<A: Allocator + Copy>(
 )
     requires linked { IsLinked places.now }
     requires within { list ≤ length places.now }
-    requires enough { (g : ℕ) → count g (listed places.now list) ≤ (group_at groups.old.items g).left }
-    requires joined { IsJoined members.now groups.old.items falsified.old.lefts }
-    ensures lefts { (g : ℕ) → (group_at groups.new.items g).left + count g (listed places.now list) ≡
+    requires enough { (g : ℕ) → count g (numbers_at places.now list) ≤ (group_at groups.old.items g).left }
+    requires joined { CountsMembers members.now groups.old.items falsified.old.lefts }
+    ensures lefts { (g : ℕ) → (group_at groups.new.items g).left + count g (numbers_at places.now list) ≡
         (group_at groups.old.items g).left }
-    ensures joined { IsJoined members.now groups.new.items falsified.new.lefts }
+    ensures joined { CountsMembers members.now groups.new.items falsified.new.lefts }
     ensures lists { clause_lists groups.new.items ≡ clause_lists groups.old.items }
     ensures firsts { falsified.new.firsts ≡ falsified.old.firsts }
     ensures clauses { length falsified.new.lefts ≡ length falsified.old.lefts }
@@ -45,12 +45,12 @@ pub(crate) fn raise_groups<A: Allocator + Copy>(
 )
     requires linked { IsLinked places.now }
     requires within { list ≤ length places.now }
-    requires known { (g : ℕ) → length groups.old.items ≤ g → count g (listed places.now list) ≡ 0 }
-    requires few { (g : ℕ) → (group_at groups.old.items g).left + count g (listed places.now list) < 2 ^ 32 }
-    requires joined { IsJoined members.now groups.old.items falsified.old.lefts }
+    requires known { (g : ℕ) → length groups.old.items ≤ g → count g (numbers_at places.now list) ≡ 0 }
+    requires few { (g : ℕ) → (group_at groups.old.items g).left + count g (numbers_at places.now list) < 2 ^ 32 }
+    requires joined { CountsMembers members.now groups.old.items falsified.old.lefts }
     ensures lefts { (g : ℕ) → (group_at groups.new.items g).left ≡
-        (group_at groups.old.items g).left + count g (listed places.now list) }
-    ensures joined { IsJoined members.now groups.new.items falsified.new.lefts }
+        (group_at groups.old.items g).left + count g (numbers_at places.now list) }
+    ensures joined { CountsMembers members.now groups.new.items falsified.new.lefts }
     ensures lists { clause_lists groups.new.items ≡ clause_lists groups.old.items }
     ensures firsts { falsified.new.firsts ≡ falsified.old.firsts }
     ensures clauses { length falsified.new.lefts ≡ length falsified.old.lefts }

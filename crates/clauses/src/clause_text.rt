@@ -177,9 +177,8 @@ impl<I: Interner> ClauseWriter<'_, I> {
         requires first { knows_variable (I.universe self.now.interner.now) self.now.variables.now first ≡ true }
         requires second { knows_variable (I.universe self.now.interner.now) self.now.variables.now second ≡ true }
         requires set { (I.universe self.now.interner.now).knows_set set ≡ true }
-        ensures ok { let writer = numbered_variable (I.universe self.now.interner.now)
-            (I.texts self.now.interner.now) self.now.variables.now in
-            IfOk result (λ text. string_bytes text ≡
+        ensures ok { let writer = numbered_variable (I.universe self.now.interner.now) (I.texts self.now.interner.now)
+            self.now.variables.now in IfOk result (λ text. string_bytes text ≡
             of_three kind.now (writer first) (writer second) ((I.texts self.now.interner.now).version_set set)) }
         ensures err { IfErr result (λ e. e ≡ OutOfMemory) }
     {

@@ -3,9 +3,7 @@ use Rattle.std.proofs.Common.{◌≡◌, ℕ, ◌+◌, ◌^◌, Bool, true, fals
 use Rattle.std.proofs.lemmas.List.{take-append-drop}
 use Rattle.std.proofs.Math.Seq.{take-length, drop-length, take-append_seam}
 use Rattle.std.specs.Io.KnownBytes.{Consumes}
-use Rattle.script_text.specs.Reading.{ReadOnce}
-use Rattle.script_text.specs.declared.fault.ScriptFault.{ScriptFault}
-use Rattle.script_text.specs.declared.fault.ScriptFault.TheVariants.{Unreadable, Device, Memory}
+use Rattle.script_text.specs.declared.fault.ScriptFault.TheVariants.{Device}
 use Rattle.dialogs.specs.LineReads.{HasNoFeed, IsFed, LineReads, NextLine, NextLineFails}
 
 pub not_both : (b : Bool) → b ≡ true → b ≡ false → ⊥
@@ -54,25 +52,6 @@ module _ {S : Type 0} (remaining : S → Option (List ℕ)) (reads fails : S →
         left ∙ ap (λ k. drop k now) whole ∙ drop-length now,
       ),
     )
-
-  -- a reader that ended before isn't read
-  pub not_ended : (ended now : Bool) (n : ℕ) → (ended ≡ true → (n ≡ 0) × (now ≡ true)) → now ≡ false → ended ≡ false
-  not_ended false now n h isnt = refl
-  not_ended true now n h isnt = absurd (not_both now (h refl).1 isnt)
-
-  -- the read failed
-  pub read_fails : (T : Type 0) (n : ℕ) (s m t : S) (held held' : List ℕ) (ended : Bool) (e : ScriptFault) → LineReads remaining reads fails n s held m held'
-      → ended ≡ false → HasNoFeed held' → ReadOnce {T = T} reads fails m (Err e) t → NextLineFails remaining reads fails ended s held e t
-  read_fails T n s m t held held' ended (Unreadable number) made isnt none once = absurd once
-  read_fails T n s m t held held' ended Device made isnt none once = (isnt, inl (n, m, held', made, none, once))
-  read_fails T n s m t held held' ended Memory made isnt none once =
-      (n, m, held', made, (λ h. absurd (not_both ended h isnt)), inr (isnt, none, once))
-
-  -- memory was refused for the line
-  pub take_fails : (n : ℕ) (s t : S) (held held' : List ℕ) (ended : Bool) (e : ScriptFault) → LineReads remaining reads fails n s held t held'
-      → (ended ≡ true → n ≡ 0) → e ≡ Memory → NextLineFails remaining reads fails ended s held e t
-  take_fails n s t held held' ended e made none is =
-      subst (λ f. NextLineFails remaining reads fails ended s held f t) (sym is) (n, t, held', made, none, inl refl)
 
   -- no line came in n reads
   pub none_came : (n : ℕ) (s t : S) (held held' : List ℕ) (ended now : Bool) → 2 ^ 32 ≤ n → LineReads remaining reads fails n s held t held'

@@ -51,7 +51,7 @@ three x y z a b c e f h =
 module _ {A : Type 0} (keys : List GroupKey) (s : Counted A) where
   -- whether the group with this number is false
   abbrev is_false_group : ℕ → Bool
-  is_false_group number = list_all s.is_false (below.literals_of (grouped_by keys s) number)
+  is_false_group number = list_all s.is_false (below.literals_of_group (grouped_by keys s) number)
 
   group_false : (key : GroupKey) → number_in keys key < length keys
       → is_false_group (number_in keys key) ≡ list_all s.is_false (literals_of s.lists s.disjunctions key)
@@ -75,7 +75,7 @@ module _ {A : Type 0} (keys : List GroupKey) (s : Counted A) where
   module _ (grouped : All (λ (c : PlacedDemand). HasGroups keys c.demand) s.clauses) where
     -- a clause, as the counters show it
     shown_is : (c : ℕ) → c < length s.clauses → grouped_clause (grouped_by keys s) c ≡ group_clause keys (clause_at s c)
-    shown_is c l = get_or-map (group_clause keys) s.clauses c no_clause below.no_clause l
+    shown_is c l = get_or-map (group_clause keys) s.clauses c no_clause below.no_group_clause l
 
     falsified_is : (c : ℕ) → c < length s.clauses → below.is_falsified (grouped_by keys s) c ≡ is_falsified_at s c
     falsified_is c l =

@@ -14,12 +14,11 @@ use Rattle.decisions.specs.Literals.{Lit}
 use Rattle.clauses.specs.Stored.{lists_found}
 use Rattle.clauses.specs.declared.disjunction.Disjunction.{Disjunction}
 use Rattle.clause_counters.specs.GroupedClauses.{GroupedClauses, Represents, row_literals}
-use Rattle.clause_counters.proofs.ShownLaws.{shows_same}
 use Rattle.falsified_clauses.specs.declared.group_key.GroupKey.{GroupKey}
 use Rattle.falsified_clauses.specs.declared.group_key.GroupKey.TheVariants.{Parent, Condition, Rows}
 use Rattle.falsified_clauses.specs.Clauses.{Lists, Counted}
 use Rattle.falsified_clauses.specs.GroupKeys.{literals_of, IsKnown}
-use Rattle.falsified_clauses.specs.Counts.{KeyedCounters, Counts, grouped_by, group_clause}
+use Rattle.falsified_clauses.specs.Counts.{KeyedCounters, Counts, group_clause}
 
 -- two functions that say the same of each element of a list
 map_same : {X Y : Type 0} (f g : X → Y) (xs : List X) → All (λ x. f x ≡ g x) xs → map f xs ≡ map g xs
@@ -30,15 +29,6 @@ map_same f g (x ∷ xs) same =
     cc
 
 module _ {A : Type 0} (kept : KeyedCounters) (s : Counted A) (counts : Counts kept s) where
-  -- a function that tells the same false literals
-  pub counts_falses : (is_false : Lit → Bool) → ((l : Lit) → s.is_false l ≡ is_false l)
-      → Counts kept (record s { is_false = is_false })
-  counts_falses is_false same = record {
-    represents = shows_same kept.counters (grouped_by kept.keys s) is_false same counts.represents;
-    grouped = counts.grouped;
-    known = counts.known;
-  }
-
   -- lists and disjunctions in which what was known is the same
   pub counts_loaded : (lists : Lists A) (disjunctions : List (Disjunction A))
       → ((key : GroupKey) → IsKnown s.lists s.disjunctions key → IsKnown lists disjunctions key

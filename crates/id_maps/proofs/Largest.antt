@@ -1,5 +1,5 @@
 -- What `largest` of a map goes through, one value after another.
-use Rattle.std.proofs.Common.{◌≡◌, true≢false, ℕ, zero, suc, ◌<◌, ◌^◌, Bool, true, false, cond, min, List, [], ◌∷◌}
+use Rattle.std.proofs.Common.{◌≡◌, ℕ, zero, suc, ◌<◌, ◌^◌, Bool, true, false, cond, min, List, [], ◌∷◌}
 use Rattle.std.proofs.Common.{◌⊎◌, inl, inr, length, get_or, Some, Contains, fold, refl, sym, ap, subst, ◌∙◌, arith}
 use Rattle.std.specs.Cmp.{IsTotalOrder, upto, tied_itself}
 use Rattle.std.specs.List.{IsDistinct}
@@ -135,23 +135,3 @@ module _ {V : Type 0} {compare : V → V → Ordering} (order : IsTotalOrder com
         sym (ap (λ value. unwrap_or value default)
             (lookup-from_Contains laws found.0 (walk compare default (values_of entries)) entries distinct found.1)),
       )
-
-  not_above : (r : Ordering) → is_gt r ≡ false → is_lt r ≡ false → r ≡ Equal
-  not_above Less h k = absurd (true≢false k)
-  not_above Equal h k = refl
-  not_above Greater h k = absurd (true≢false h)
-
-  -- two values that are both the largest are equal by the order
-  pub one_largest : {K : Type 0} (default : V) (values : K → V) (x y : V) → IsLargest compare default values x →
-      IsLargest compare default values y → compare x y ≡ Equal
-  one_largest default values x y a b =
-      not_above (compare x y) (below x y a b) (smaller x y ∙ below y x b a)
-    where
-      smaller : (u v : V) → is_lt (compare u v) ≡ is_gt (compare v u)
-      smaller u v = sym (turned (compare u v)) ∙ ap is_gt (sym (order.antisymm v u))
-
-      below : (u v : V) → IsLargest compare default values u → IsLargest compare default values v → is_gt (compare u v) ≡ false
-      below u v p q = elim p.among [
-        | inl first ↦ subst (λ w. is_gt (compare w v) ≡ false) (sym first) q.default_below
-        | inr (key, is) ↦ subst (λ w. is_gt (compare w v) ≡ false) (sym is) (q.values_below key)
-      ]

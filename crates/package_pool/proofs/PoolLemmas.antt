@@ -6,11 +6,10 @@ use Rattle.std.proofs.lemmas.List.Elements.{All-weaker}
 use Rattle.std.specs.Prelude.{slice_get}
 use Rattle.std.specs.Option.{unwrap_or, option_map}
 use Rattle.std.specs.Prelude.{Result, Ok, Err, OnOk, OnErr}
-use Rattle.typed_ids.specs.declared.version_set_id.VersionSetId.{VersionSetId}
 use Rattle.providers.specs.declared.condition.Condition.{Condition}
 use Rattle.providers.specs.declared.condition.Condition.TheVariants.{Binary, Requirement}
 use Rattle.package_pool.specs.Interned.{has_same, interned}
-use Rattle.package_pool.specs.Pool.{Lists, nothing, IsSound, Placed, IsOfItself, IsMadeBelow, AreSetsHere}
+use Rattle.package_pool.specs.Pool.{Lists, nothing, IsSound, Placed, IsOfItself, IsMadeBelow}
 
 -- what stands at the end, too
 pub placed_push : {X : Type 0} (P : ℕ → X → Type 0) (xs : List X) (x : X) → Placed P xs → P (length xs) x → Placed P (xs ++ x ∷ [])
@@ -65,15 +64,6 @@ module _ {N VS V : Type 0} (p : Lists N VS V) (own : IsOfItself p) where
         version_sets = named;
         unions = λ i union e. All-weaker (λ v. v.0 < length p.version_sets) (λ v. v.0 < length sets) (λ v h. omega arith) union (own.unions i union e);
         conditions = λ i c e. made_more sets more i c (own.conditions i c e);
-      }
-
-  pub own_with_union : (union : List VersionSetId) → AreSetsHere p union → IsOfItself (record p { unions = p.unions ++ union ∷ [] })
-  own_with_union union here =
-      record {
-        solvables = own.solvables;
-        version_sets = own.version_sets;
-        unions = placed_push (λ _ sets. AreSetsHere p sets) p.unions union own.unions here;
-        conditions = own.conditions;
       }
 
   pub own_with_conditions : (conditions : List Condition) → Placed (IsMadeBelow p) conditions → IsOfItself (record p { conditions = conditions })

@@ -14,15 +14,6 @@ in_head c cs = rw (eqb_self c) refl
 pub in_rest : (c d : ℕ) (cs : List ℕ) → is_clause_in c cs ≡ true → is_clause_in c (d ∷ cs) ≡ true
 in_rest c d cs h = rw h (or_true (nat_eq c d))
 
-pub in_front : (c : ℕ) (front back : List ℕ) → is_clause_in c front ≡ true → is_clause_in c (front ++ back) ≡ true
-in_front c [] back h = absurd (let z : false ≡ true = h in cc)
-in_front c (x ∷ front) back h = go (nat_eq c x) (in_front c front back) h
-  where
-    go : (b : Bool) → (is_clause_in c front ≡ true → is_clause_in c (front ++ back) ≡ true) →
-        (b || is_clause_in c front) ≡ true → (b || is_clause_in c (front ++ back)) ≡ true
-    go true ih k = refl
-    go false ih k = ih k
-
 pub in_back : (c : ℕ) (front back : List ℕ) → is_clause_in c back ≡ true → is_clause_in c (front ++ back) ≡ true
 in_back c [] back h = h
 in_back c (x ∷ front) back h = in_rest c x (front ++ back) (in_back c front back h)

@@ -3,8 +3,6 @@ use Rattle.std.proofs.Common.{◌≡◌, ℕ, true, List, map, length, sym, ap, 
 use Rattle.decisions.specs.Literals.{Lit}
 use Rattle.watch_map.specs.Watching.{is_literal_in}
 use Rattle.watch_map.specs.WatchLists.{Watches, literals_in, watched_by}
-use Rattle.clauses.specs.declared.clause.Clause.{Clause}
-use Rattle.watch_map.specs.ClauseList.{Clauses}
 use Rattle.watch_map.specs.Saturation.{WatchOwn, IsRearranged}
 use Rattle.decisions.specs.Trail.{Entry}
 use Rattle.watch_map.specs.Marks.{AreMarks}
@@ -34,22 +32,3 @@ pub marks_there : (literals : ℕ → List Lit) (ws : Watches) (es : List Entry)
     → AreMarks literals (watched_by ws) es marks → AreMarks literals (watched_at (map literals_in ws)) es marks
 marks_there literals ws es marks are =
     marks_alike literals (watched_by ws) es marks are (watched_at (map literals_in ws)) (literals_at ws)
-
--- a list with the same clauses and the same learnt literals differs in its watches and their lists alone
-pub rest_is : {N : Type 0} (old new : Clauses N) → new.clauses ≡ old.clauses → new.learnt ≡ old.learnt
-    → new ≡ record old { watches = new.watches; watchers = new.watchers }
-rest_is {N} old new clauses learnt =
-    ap (λ (cs : List (Clause N)). record {
-      clauses = cs;
-      watches = new.watches;
-      learnt = new.learnt;
-      watchers =
-          new.watchers;
-    }) clauses
-    ∙ ap (λ (ls : List (List Lit)). record {
-      clauses = old.clauses;
-      watches = new.watches;
-      learnt = ls;
-      watchers =
-          new.watchers;
-    }) learnt

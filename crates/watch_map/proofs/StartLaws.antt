@@ -14,7 +14,7 @@ use Rattle.clauses.specs.Clauses.{same_literal}
 use Rattle.watch_map.specs.Watching.{is_literal_in, is_clause_in, AreTwo, IsExact, started}
 use Rattle.watch_map.specs.WatchLists.{WatchLists, Watches, record_of, literals_in, watched_by, next_in}
 use Rattle.watch_map.specs.WatchLists.{link, chain, IsChain, watchers, HasTwoLinks, HasRoom, AreWatched}
-use Rattle.watch_map.specs.WatchCalls.{SameLists, Starts, KeepsRoom, UsesRoom, HaveRoom}
+use Rattle.watch_map.specs.WatchCalls.{SameLists, Starts, KeepsRoom, UsesRoom}
 use Rattle.watch_map.proofs.WatchingLaws.{same_is, same_self, same_swap, exact_same, started_exact}
 use Rattle.watch_map.proofs.ChainLaws.{chain_same}
 use Rattle.watch_map.proofs.LinkLaws.{lists_made}
@@ -175,17 +175,6 @@ module _ (old one two new : WatchLists) where
 
   pub uses_room_since : (ls : List Lit) → KeepsRoom old one → KeepsRoom one two → UsesRoom ls two new → UsesRoom ls old new
   uses_room_since ls keeps1 keeps2 uses l n room = uses l n (keeps2 l _ (keeps1 l _ room))
-
--- two literals in whose lists there is room
-pub rooms_of_two : (map : WatchLists) (ls : List Lit) → AreTwo ls → HaveRoom map ls → (d e : Lit)
-    → HasRoom map (slice_index_or ls 0 d) 1 × HasRoom map (slice_index_or ls 1 e) 1
-rooms_of_two map [] two rooms d e = absurd two
-rooms_of_two map (a ∷ []) two rooms d e = absurd two
-rooms_of_two map (a ∷ b ∷ c ∷ ls) two rooms d e = absurd two
-rooms_of_two map (a ∷ b ∷ []) two rooms d e = (
-  rooms a (rw (same_self a) refl),
-  rooms b (rw (same_swap b a ∙ two, same_self b) refl),
-)
 
 -- a slot serves any number of additions
 pub uses_room : (literals : List Lit) (old middle new : WatchLists) → KeepsRoom old middle → KeepsRoom middle new → UsesRoom literals old new

@@ -78,9 +78,6 @@ only : (v w : ℕ) → Contains (v ∷ []) w → v ≡ w
 only v w h = elim (Contains-push_cases [] v w h) [ inl none ↦ absurd (omega (arith, none.1)) | inr e ↦ e ]
 
 module _ (r : Requirement) where
-  pub grows_none : (vs : List ℕ) (a : Listed) → GrowsWith r vs a a
-  grows_none vs a = record { kept = λ v q s. s; added = λ v q s. inl s }
-
   grows_both : (vs : List ℕ) (a b c : Listed) → GrowsWith r vs a b → GrowsWith r vs b c → GrowsWith r vs a c
   grows_both vs a b c f g = record {
     kept = λ v q s. g.kept v q (f.kept v q s);

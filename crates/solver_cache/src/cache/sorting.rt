@@ -34,8 +34,7 @@ impl<D: DependencyProvider + Drop> SolverCache<D> {
         ensures cached { is_cached (same_requirement requirement) self.old.sorted ≡ true → IsOk result }
         ensures refused { IfErr result (λ e. RefusesSets
             (⟦<D as ProviderFunctions>⟧.functions self.old.provider) (D.may_answer self.old.provider)
-            D.SolvableId.Set.has self.old
-            (sets_of (D.universe self.old.provider) requirement) e self.new) }
+            D.SolvableId.Set.has self.old (sets_of (D.universe self.old.provider) requirement) e self.new) }
     {
         match requirement {
             Requirement::Single(set) => self.cache_sorted_candidates_for_version_set(set),
@@ -110,8 +109,7 @@ impl<D: DependencyProvider + Drop> SolverCache<D> {
         ensures cached { is_cached (same_requirement (Union union)) self.old.sorted ≡ true → IsOk result }
         ensures refused { IfErr result (λ e. RefusesSets
             (⟦<D as ProviderFunctions>⟧.functions self.old.provider) (D.may_answer self.old.provider)
-            D.SolvableId.Set.has self.old
-            ((D.universe self.old.provider).union_sets union) e self.new) }
+            D.SolvableId.Set.has self.old ((D.universe self.old.provider).union_sets union) e self.new) }
     {
         match self.sorted.find(Requirement::Union(union)) {
             Some(place) => Ok(ListId {
@@ -137,14 +135,12 @@ impl<D: DependencyProvider + Drop> SolverCache<D> {
         requires { (D.universe self.old.provider).knows_union union ≡ true }
         ensures sorted { OnOk result (SortsSets
             (⟦<D as ProviderFunctions>⟧.functions self.old.provider) (D.may_answer self.old.provider)
-            D.SolvableId.Set.has self.old
-            ((D.universe self.old.provider).union_sets union) self.new) }
+            D.SolvableId.Set.has self.old ((D.universe self.old.provider).union_sets union) self.new) }
         ensures list { IfOk result (λ list. list.items ≡
             sorted_of (⟦<D as ProviderFunctions>⟧.functions self.old.provider) (Union union)) }
         ensures refused { IfErr result (λ e. RefusesSets
             (⟦<D as ProviderFunctions>⟧.functions self.old.provider) (D.may_answer self.old.provider)
-            D.SolvableId.Set.has self.old
-            ((D.universe self.old.provider).union_sets union) e self.new) }
+            D.SolvableId.Set.has self.old ((D.universe self.old.provider).union_sets union) e self.new) }
     {
         let ids = self.cache_sorted_lists(Requirement::Union(union))?;
         Ok(self.concatenated(&ids)?)
@@ -162,8 +158,7 @@ impl<D: DependencyProvider + Drop> SolverCache<D> {
             D.SolvableId.Set.has self.old requirement ids.items self.new) }
         ensures refused { IfErr result (λ e. RefusesSets
             (⟦<D as ProviderFunctions>⟧.functions self.old.provider) (D.may_answer self.old.provider)
-            D.SolvableId.Set.has self.old
-            (sets_of (D.universe self.old.provider) requirement) e self.new) }
+            D.SolvableId.Set.has self.old (sets_of (D.universe self.old.provider) requirement) e self.new) }
     {
         match requirement {
             Requirement::Single(set) => self.sort_all(&[set]),

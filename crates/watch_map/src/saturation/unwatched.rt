@@ -58,8 +58,7 @@ pub(crate) fn visit_all_unwatched<N: Copy, A: Allocator + Copy>(
     requires there { All (λ c. c < length input.now.clauses.now) input.now.unwatched.now }
     requires first { AreAllTrue (literals_at input.now) (take first input.now.unwatched.now) (val trail.old.entries) }
     ensures implied { HasImplied (literals_at input.now) input.now.level trail.old trail.new }
-    ensures ok { IfOk result (λ conflict. MatchOption conflict
-        (length trail.new.entries ≡ length trail.old.entries
+    ensures ok { IfOk result (λ conflict. MatchOption conflict (length trail.new.entries ≡ length trail.old.entries
         → AreAllSettled (literals_at input.now) input.now.unwatched.now (val trail.new.entries))
         (IsConflict (literals_at input.now) (length input.now.clauses.now) (val trail.new.entries))) }
     ensures memory { IfErr result (λ e. e ≡ OutOfMemory) }

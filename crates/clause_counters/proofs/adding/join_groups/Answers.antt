@@ -1,7 +1,7 @@
 use Rattle.std.proofs.Common.{◌≡◌, ◌+◌, ◌<◌, not, cond, eqb, length, take, get_or, refl, sym, ap, ◌∙◌, arith}
 use Rattle.std.proofs.lemmas.List.{length-set, length_push}
 use Rattle.std.proofs.lemmas.List.Sums.{sum_by_more}
-use Rattle.clause_counters.specs.Links.{listed, count}
+use Rattle.clause_counters.specs.Links.{numbers_at, count}
 use Rattle.clause_counters.specs.Counted.{group_at, all_members, open_members}
 use Rattle.clause_counters.specs.Adding.{IsMember, with_member, joined_at, open_count}
 use Rattle.clause_counters.proofs.PoolLaws.{merged, merged_twice, one_unless, moved}
@@ -31,12 +31,12 @@ loop-group-preserved g c =
     let gs' = c.join.new.groups.items in
     record {
       member = moved IsMember wm ms' wg gs' np nl (member_step ms gs inv.member i in' clause);
-      lists = λ h d. moved (λ x y. count d (listed x (group_at y h).clauses)
-          ≡ count d (listed ms0 (group_at gs0 h).clauses)
+      lists = λ h d. moved (λ x y. count d (numbers_at x (group_at y h).clauses)
+          ≡ count d (numbers_at ms0 (group_at gs0 h).clauses)
           + cond (eqb clause d) (count h (take (k + 1) list)) 0) wm ms' wg gs' np nl
-          (merged_twice (eqb i h) (eqb clause d) (count d (listed wm (group_at wg h).clauses))
-          (count d (listed ms (group_at gs h).clauses))
-          (count d (listed ms0 (group_at gs0 h).clauses)) (count h (take k list)) (count h (take (k + 1) list)) 1
+          (merged_twice (eqb i h) (eqb clause d) (count d (numbers_at wm (group_at wg h).clauses))
+          (count d (numbers_at ms (group_at gs h).clauses))
+          (count d (numbers_at ms0 (group_at gs0 h).clauses)) (count h (take k list)) (count h (take (k + 1) list)) 1
           (member_lists ms gs inv.member i in' clause h d) (inv.lists h d)
           (sum_by_more (λ x. cond (eqb x h) 1 0) list k 0 test));
       all = λ d. moved (λ x y. all_members x y d ≡ all_members ms0 gs0 d + cond (eqb clause d) (k + 1) 0) wm ms' wg

@@ -1,6 +1,6 @@
 use Rattle.std.proofs.Common.{◌≡◌, ◌+◌, ℕ, cond, eqb, take}
 use Rattle.std.specs.Prelude.{vec_len, vec_capacity}
-use Rattle.clause_counters.specs.Links.{listed, count}
+use Rattle.clause_counters.specs.Links.{numbers_at, count}
 use Rattle.clause_counters.specs.Counted.{group_at, all_members, open_members}
 use Rattle.clause_counters.specs.Adding.{IsMember, open_count}
 use Rattle.clause_counters.proofs.adding.join_groups.Given as goal
@@ -8,8 +8,8 @@ use Rattle.clause_counters.proofs.adding.join_groups.Given as goal
 abbrev pub invariant-loop-group : goal.invariant-loop-group
 invariant-loop-group g l = record {
   member : IsMember l.members.items l.groups.items;
-  lists : (h c : ℕ) → count c (listed l.members.items (group_at l.groups.items h).clauses) ≡
-      count c (listed l.fn.members.items (group_at l.fn.groups.items h).clauses)
+  lists : (h c : ℕ) → count c (numbers_at l.members.items (group_at l.groups.items h).clauses) ≡
+      count c (numbers_at l.fn.members.items (group_at l.fn.groups.items h).clauses)
       + cond (eqb l.clause c) (count h (take l.group-index l.list)) 0;
   all : (c : ℕ) → all_members l.members.items l.groups.items c ≡
       all_members l.fn.members.items l.fn.groups.items c + cond (eqb l.clause c) l.group-index 0;

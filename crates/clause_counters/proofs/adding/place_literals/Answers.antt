@@ -11,7 +11,7 @@ use Rattle.decisions.specs.Literals.{Pos, is_false_literal}
 use Rattle.decisions.specs.LiteralIndex.{literal_index}
 use Rattle.clause_counters.specs.declared.links.Link.{Link}
 use Rattle.clause_counters.specs.declared.groups.Standing.{Standing}
-use Rattle.clause_counters.specs.Links.{link_at, listed, count}
+use Rattle.clause_counters.specs.Links.{link_at, numbers_at, count}
 use Rattle.clause_counters.specs.Counted.{no_standing, standing_at, all_places, open_places}
 use Rattle.clause_counters.specs.GroupedClauses.{has_index, once}
 use Rattle.clause_counters.specs.Adding.{IsStanding, AreFlagged, initial_flag, is_newest, with_place_once, placed_once}
@@ -49,8 +49,8 @@ none_newest ps ls group i st new = false_from_ne_true _ (λ e.
     let parts = and_parts _ _ e in
     let some : at.groups ≡ 0 → ⊥ = λ z. false≢true (sym (ap not (eq-eqb at.groups 0 z)) ∙ parts.0) in
     let is : (link_at ps (at.groups - 1)).value ≡ group = eqb-true _ _ parts.1 in
-    let one : 1 ≤ count group (listed ps at.groups) =
-    subst (λ n. 1 ≤ count n (listed ps at.groups)) is (first_counted ps st.linked at.groups some) in
+    let one : 1 ≤ count group (numbers_at ps at.groups) =
+    subst (λ n. 1 ≤ count n (numbers_at ps at.groups)) is (first_counted ps st.linked at.groups some) in
     elim (cases_lt i (length ls)) [
       | inl l ↦ (let part = of_literal ps ls i group l in omega (arith, part, one, new))
       | inr past ↦ some (ap (λ (x : Standing). x.groups) (get_or_past ls i no_standing past))
@@ -102,12 +102,12 @@ loop-literal-preserved g c =
     ∙ ap (λ n. list_any (has_index j) (take k list) || eqb n j) (sym index) in
     record {
       standing = moved IsStanding wp ps' wl ls' np nl (standing_once ps ls inv.standing i in' group new_flag);
-      lists = λ j h. moved (λ x y. count h (listed x (standing_at y j).groups) ≡
-          count h (listed c.args.places.now.items (standing_at c.args.literals.now.items j).groups)
+      lists = λ j h. moved (λ x y. count h (numbers_at x (standing_at y j).groups) ≡
+          count h (numbers_at c.args.places.now.items (standing_at c.args.literals.now.items j).groups)
           + cond (eqb group h) (once j (take (k + 1) list)) 0) wp ps' wl ls' np nl
-          (merged_twice (eqb i j) (eqb group h) (count h (listed wp (standing_at wl j).groups))
-          (count h (listed ps (standing_at ls j).groups))
-          (count h (listed c.args.places.now.items (standing_at c.args.literals.now.items j).groups))
+          (merged_twice (eqb i j) (eqb group h) (count h (numbers_at wp (standing_at wl j).groups))
+          (count h (numbers_at ps (standing_at ls j).groups))
+          (count h (numbers_at c.args.places.now.items (standing_at c.args.literals.now.items j).groups))
           (once j (take k list)) (once j (take (k + 1) list)) (cond has_one 0 1)
           (lists_once ps ls inv.standing i in' group new_flag j h) (inv.lists j h)
           (ap (λ b. cond b 1 0) (any j)

@@ -4,7 +4,7 @@ use Rattle.std.specs.List.{All, list_any}
 use Rattle.decisions.specs.Decisions.{values_in}
 use Rattle.decisions.specs.Literals.{is_false_literal}
 use Rattle.decisions.specs.LiteralIndex.{literal_index}
-use Rattle.clause_counters.specs.Links.{listed, count}
+use Rattle.clause_counters.specs.Links.{numbers_at, count}
 use Rattle.clause_counters.specs.Counted.{standing_at, all_places, open_places}
 use Rattle.clause_counters.specs.GroupedClauses.{has_index, once}
 use Rattle.clause_counters.specs.Adding.{IsStanding, AreFlagged, is_newest}
@@ -13,8 +13,8 @@ use Rattle.clause_counters.proofs.adding.place_literals.Given as goal
 abbrev pub invariant-loop-literal : goal.invariant-loop-literal
 invariant-loop-literal g l = record {
   standing : IsStanding l.places.items l.literals.items;
-  lists : (i h : ℕ) → count h (listed l.places.items (standing_at l.literals.items i).groups) ≡
-      count h (listed l.fn.places.items (standing_at l.fn.literals.items i).groups)
+  lists : (i h : ℕ) → count h (numbers_at l.places.items (standing_at l.literals.items i).groups) ≡
+      count h (numbers_at l.fn.places.items (standing_at l.fn.literals.items i).groups)
       + cond (eqb l.group h) (once i (take l.literal-index l.list)) 0;
   newest : (i : ℕ) → is_newest l.places.items (standing_at l.literals.items i) l.group ≡
       list_any (has_index i) (take l.literal-index l.list);

@@ -4,7 +4,7 @@ use Rattle.std.specs.List.Sorted.{IsPermutation}
 use Rattle.std.proofs.lemmas.List.{get_or_read_under}
 use Rattle.std.specs.BinaryHeap.{heap_items, heap_capacity, heap_len}
 use Rattle.clause_counters.specs.declared.falsified_heap.Clause.{Clause}
-use Rattle.clause_counters.specs.FalsifiedHeap.{IsHeld, clause_at, no_clause, marked}
+use Rattle.clause_counters.specs.FalsifiedHeap.{IsHeld, heap_clause, no_heap_clause, with_mark}
 use Rattle.clause_counters.proofs.HeldLaws.{held_inserted, room_left, roomier, from_ok}
 use Rattle.clause_counters.proofs.falsified_heap.insert_entry.Goals as goal
 
@@ -14,8 +14,8 @@ returns-clause-held g c =
     let old = c.args.heap.now in
     let new = c.push.new.self in
     let within : c.args.clause < length cs = subst (λ n. c.args.clause < n) c.args.clauses.now.ok.0 c.requires.within in
-    let at : c.index_mut-at.result.now ≡ clause_at cs c.args.clause =
-    get_or_read_under cs c.args.clause c.args.clauses.now.len c.index_mut-at.result.now no_clause
+    let at : c.index_mut-at.result.now ≡ heap_clause cs c.args.clause =
+    get_or_read_under cs c.args.clause c.args.clauses.now.len c.index_mut-at.result.now no_heap_clause
     c.index_mut-at.ensures.value
     c.requires.within c.args.clauses.now.ok.0 in
     let fits : heap_len old < heap_capacity old =
@@ -24,7 +24,7 @@ returns-clause-held g c =
     let pushed : IsOk c.push.result = c.push.ensures.succeeds fits in
     subst (λ (x : Clause). IsHeld (set cs c.args.clause (record x { is_in_heap = true })) (heap_items new)
     (heap_capacity new)) (sym at)
-    (roomier (marked true c.args.clause cs) (heap_items new) (heap_capacity old) (heap_capacity new)
+    (roomier (with_mark true c.args.clause cs) (heap_items new) (heap_capacity old) (heap_capacity new)
     (held_inserted cs (heap_items old) (heap_items new) (heap_capacity old) c.args.clause c.requires.held within
     c.requires.absent
     (subst (λ (x : Clause). IsPermutation (record {

@@ -4,7 +4,7 @@ use Rattle.std.specs.List.Sorted.{IsPermutation}
 use Rattle.std.proofs.lemmas.List.{get_or_read_under}
 use Rattle.std.specs.BinaryHeap.{PopsGreatest, heap_items, heap_capacity}
 use Rattle.clause_counters.specs.declared.falsified_heap.Clause.{Clause}
-use Rattle.clause_counters.specs.FalsifiedHeap.{IsHeld, clause_at, no_clause, marked, heap_cmp}
+use Rattle.clause_counters.specs.FalsifiedHeap.{IsHeld, heap_clause, no_heap_clause, with_mark, heap_cmp}
 use Rattle.clause_counters.proofs.HeldLaws.{held_removed, top_within, popped_is, roomier}
 use Rattle.clause_counters.proofs.falsified_heap.remove_top.Goals as goal
 
@@ -16,8 +16,8 @@ returns-clause-held g c =
     let top = c.args.top in
     let within : top.number < length cs = top_within cs (heap_items old)
     (heap_capacity old) top c.requires.held c.requires.top in
-    let at : c.index_mut.result.now ≡ clause_at cs top.number =
-    get_or_read_under cs top.number c.args.clauses.now.len c.index_mut.result.now no_clause c.index_mut.ensures.value
+    let at : c.index_mut.result.now ≡ heap_clause cs top.number =
+    get_or_read_under cs top.number c.args.clauses.now.len c.index_mut.result.now no_heap_clause c.index_mut.ensures.value
     (subst (λ n. top.number < n) (sym c.args.clauses.now.ok.0) within) c.args.clauses.now.ok.0 in
     let some : IsSome c.pop.result = c.pop.ensures.variant.1 (subst (λ n. 0 < n) (sym old.data.ok.0) c.requires.top.0)
     in
@@ -25,7 +25,7 @@ returns-clause-held g c =
     popped_is (heap_items old) c.pop.result top c.requires.top.0 c.requires.top.1 some c.pop.ensures.top in
     subst (λ (x : Clause). IsHeld (set cs top.number (record x { is_in_heap = false })) (heap_items new)
     (heap_capacity new)) (sym at)
-    (roomier (marked false top.number cs) (heap_items new) (heap_capacity old) (heap_capacity new)
+    (roomier (with_mark false top.number cs) (heap_items new) (heap_capacity old) (heap_capacity new)
     (held_removed cs (heap_items old) (heap_items new) (heap_capacity old) top.first_of_parent top.number
     c.requires.held
     (subst (λ o. IfSome o (λ x. IsPermutation (heap_items old) (x ∷ heap_items new))) is c.pop.ensures.permutation)

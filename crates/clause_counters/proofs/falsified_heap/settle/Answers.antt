@@ -2,7 +2,8 @@ use Rattle.std.proofs.Common.{◌≡◌, ◌<◌, sym, ap, subst, ◌∙◌, Som
 use Rattle.std.proofs.lemmas.List.{get_or_read_under}
 use Rattle.std.specs.BinaryHeap.{heap_items, heap_capacity}
 use Rattle.clause_counters.specs.declared.falsified_heap.Clause.{Clause}
-use Rattle.clause_counters.specs.FalsifiedHeap.{IsHeld, IsFalsifiedHeap, clause_at, no_clause, lefts_of, firsts_of}
+use Rattle.clause_counters.specs.FalsifiedHeap.{IsHeld, IsFalsifiedHeap, heap_clause, no_heap_clause, lefts_of}
+use Rattle.clause_counters.specs.FalsifiedHeap.{firsts_of}
 use Rattle.clause_counters.proofs.HeapLaws.{first_is_top, none_is_first, heap_removed, same_first}
 use Rattle.clause_counters.proofs.HeldLaws.{top_within}
 use Rattle.clause_counters.proofs.ClauseLaws.{lefts_kept, firsts_kept}
@@ -16,8 +17,8 @@ returns-then-index-eq0-clause-first g c =
     let top = c.in-Some.top in
     let falsified = c.loop-top.invariant.falsified in
     let within = top_within cs es room top falsified.held c.in-Some.ensures.some in
-    let at : c.index.result.now ≡ clause_at cs top.number =
-    get_or_read_under cs top.number c.loop-top.clauses.len c.index.result.now no_clause c.index.ensures
+    let at : c.index.result.now ≡ heap_clause cs top.number =
+    get_or_read_under cs top.number c.loop-top.clauses.len c.index.result.now no_heap_clause c.index.ensures
     (subst (λ n. top.number < n) (sym c.loop-top.clauses.ok.0) within) c.loop-top.clauses.ok.0 in
     same_first (lefts_of cs) (lefts_of c.args.clauses.now.items) (firsts_of cs)
     (firsts_of c.args.clauses.now.items) (Some top.number)
@@ -33,8 +34,8 @@ loop-top-preserved g c =
     let top = c.in-Some.top in
     let falsified = c.loop-top.invariant.falsified in
     let within = top_within cs es room top falsified.held c.in-Some.ensures.some in
-    let at : c.index.result.now ≡ clause_at cs top.number =
-    get_or_read_under cs top.number c.loop-top.clauses.len c.index.result.now no_clause c.index.ensures
+    let at : c.index.result.now ≡ heap_clause cs top.number =
+    get_or_read_under cs top.number c.loop-top.clauses.len c.index.result.now no_heap_clause c.index.ensures
     (subst (λ n. top.number < n) (sym c.loop-top.clauses.ok.0) within) c.loop-top.clauses.ok.0 in
     let new = c.remove_top.new.heap in
     let more = heap_capacity new in

@@ -1,14 +1,14 @@
 use Rattle.std.proofs.Common.{◌≡◌, ◌≤◌, ◌+◌, ℕ, length}
 use Rattle.std.specs.Prelude.{slice_index}
-use Rattle.clause_counters.specs.Links.{listed, count}
+use Rattle.clause_counters.specs.Links.{numbers_at, count}
 use Rattle.clause_counters.proofs.groups.lower_clauses.Given as goal
 
 abbrev pub invariant-loop-rest : goal.invariant-loop-rest
 invariant-loop-rest g l = record {
   within : l.rest ≤ length l.members;
-  lefts : (c : ℕ) → slice_index l.falsified.lefts c + count c (listed l.members l.list)
-      ≡ slice_index l.fn.falsified.lefts c + count c (listed l.members l.rest);
-  enough : (c : ℕ) → count c (listed l.members l.rest) ≤ slice_index l.falsified.lefts c;
+  lefts : (c : ℕ) → slice_index l.falsified.lefts c + count c (numbers_at l.members l.list)
+      ≡ slice_index l.fn.falsified.lefts c + count c (numbers_at l.members l.rest);
+  enough : (c : ℕ) → count c (numbers_at l.members l.rest) ≤ slice_index l.falsified.lefts c;
   firsts : l.falsified.firsts ≡ l.fn.falsified.firsts;
   clauses : length l.falsified.lefts ≡ length l.fn.falsified.lefts;
 }

@@ -1,7 +1,7 @@
 use Rattle.std.proofs.Common.{◌≡◌, ◌<◌, sym, ap, subst, ◌∙◌, arith, length}
 use Rattle.std.proofs.lemmas.List.{get_or_read_under}
 use Rattle.clause_counters.specs.declared.groups.Group.{Group}
-use Rattle.clause_counters.specs.Links.{listed, count}
+use Rattle.clause_counters.specs.Links.{numbers_at, count}
 use Rattle.clause_counters.specs.Counted.{group_at, no_group}
 use Rattle.clause_counters.proofs.CountLaws.{of_group, closed_group}
 use Rattle.clause_counters.proofs.groups.raise_group.Goals as goal
@@ -17,7 +17,7 @@ raise_clauses-requires-clause-known g c d past =
     c.requires.within c.args.groups.now.ok.0 in
     let part = of_group members groups group d l in
     let none = c.requires.joined.known d past in
-    let same = ap (λ (x : Group). count d (listed members x.clauses)) at in
+    let same = ap (λ (x : Group). count d (numbers_at members x.clauses)) at in
     omega (arith, part, none, same)
 
 pub raise_clauses-requires-clause-few : goal.raise_clauses-requires-clause-few
@@ -33,5 +33,5 @@ raise_clauses-requires-clause-few g c d =
     let part = closed_group members groups group d l none in
     let few = c.requires.joined.few d in
     let counts = c.requires.joined.counts d in
-    let same = ap (λ (x : Group). count d (listed members x.clauses)) at in
+    let same = ap (λ (x : Group). count d (numbers_at members x.clauses)) at in
     omega (arith, part, few, counts, same)

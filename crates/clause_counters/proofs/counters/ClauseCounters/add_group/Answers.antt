@@ -2,7 +2,7 @@ use Rattle.std.proofs.Common.{◌≡◌, ℕ, List, ◌+◌, ◌≤◌, Bool, co
 use Rattle.std.proofs.Common.{◌∙◌, ◌&&◌}
 use Rattle.clause_counters.specs.declared.groups.Standing.{Standing}
 use Rattle.clause_counters.specs.declared.groups.Group.{Group}
-use Rattle.clause_counters.specs.Links.{listed, count}
+use Rattle.clause_counters.specs.Links.{numbers_at, count}
 use Rattle.clause_counters.specs.Counted.{standing_at}
 use Rattle.clause_counters.specs.Adding.{AreFlagged}
 use Rattle.clause_counters.specs.CounterState.{counters_in, fit_three}
@@ -27,15 +27,15 @@ returns-clause-ok g c s represents says =
     let n = c.len-group.result in
     let is : n ≡ length gs = c.len-group.ensures ∙ f.groups.ok.0 in
     let shows : Represents (counters_in ps ls ms gs firsts room) s = subst (λ v. Represents v s) (sym c.self.view_is) represents in
-    let lists : (i h : ℕ) → count h (listed placed.new.places.items (standing_at placed.new.literals.items i).groups)
-    ≡ count h (listed ps (standing_at ls i).groups) + cond (eqb n h) (once i list) 0 =
+    let lists : (i h : ℕ) → count h (numbers_at placed.new.places.items (standing_at placed.new.literals.items i).groups)
+    ≡ count h (numbers_at ps (standing_at ls i).groups) + cond (eqb n h) (once i list) 0 =
     λ i h. placed.ensures.lists i h ∙ ap (λ m. m + cond (eqb n h) (once i list) 0)
-    (moved (λ x (y : Standing). count h (listed x y.groups) ≡ count h (listed ps (standing_at ls i).groups)) ps rp
+    (moved (λ x (y : Standing). count h (numbers_at x y.groups) ≡ count h (numbers_at ps (standing_at ls i).groups)) ps rp
     (standing_at ls i) (standing_at pl i)
     c.in_ok-reserve.ensures.items (c.in_ok-pad.ensures.same i) refl) in
     let flagged : (is_false : ℕ → Bool) → AreFlagged ps ls is_false → AreFlagged rp pl is_false =
     λ is_false before l h some. ap (λ (x : Standing). x.is_false) (c.in_ok-pad.ensures.same l)
-    ∙ before l h (moved (λ x (y : Standing). 1 ≤ count h (listed x y.groups)) rp ps (standing_at pl l)
+    ∙ before l h (moved (λ x (y : Standing). 1 ≤ count h (numbers_at x y.groups)) rp ps (standing_at pl l)
     (standing_at ls l)
     (sym c.in_ok-reserve.ensures.items) (sym (c.in_ok-pad.ensures.same l)) some) in
     let pushed = c.push_reserved.ensures.items

@@ -2,7 +2,7 @@ use Rattle.std.proofs.Common.{◌≡◌, ◌<◌, true, refl, sym, subst, set, a
 use Rattle.std.proofs.lemmas.List.{get_or_read_under}
 use Rattle.clause_counters.specs.declared.groups.Standing.{Standing}
 use Rattle.clause_counters.specs.Counted.{standing_at, no_standing}
-use Rattle.clause_counters.specs.CounterState.{counters_in, with_flag, IsSame, fit_three}
+use Rattle.clause_counters.specs.CounterState.{counters_in, with_flag, IsSameButRoom, fit_three}
 use Rattle.clause_counters.proofs.FlagLaws.{told_kept}
 use Rattle.clause_counters.proofs.counters.ClauseCounters.close.Goals as goal
 
@@ -19,9 +19,9 @@ returns-then-at-eq0 g c =
     let at : c.index_mut.result.now ≡ standing_at ls i =
     get_or_read_under ls i f.literals.len c.index_mut.result.now no_standing c.index_mut.ensures.value within
     f.literals.ok.0 in
-    subst (λ (x : Standing). IsSame (with_flag true i c.args.self.now)
+    subst (λ (x : Standing). IsSameButRoom (with_flag true i c.args.self.now)
     (counters_in places (set ls i (record x { is_false = true })) members groups f.falsified.firsts room)) (sym at)
-    (subst (λ v. IsSame (with_flag true i v) (counters_in places (set ls i (record (standing_at ls i) { is_false = true }))
+    (subst (λ v. IsSameButRoom (with_flag true i v) (counters_in places (set ls i (record (standing_at ls i) { is_false = true }))
     members groups f.falsified.firsts room)) c.self.view_is
     (told_kept places ls members groups groups f.falsified.firsts f.falsified.firsts room room true i refl refl))
 
@@ -36,10 +36,10 @@ returns g c =
     let at : c.index_mut.result.now ≡ standing_at ls i =
     get_or_read_under ls i c.self.inside.literals.len c.index_mut.result.now no_standing c.index_mut.ensures.value
     within c.self.inside.literals.ok.0 in
-    subst (λ (x : Standing). IsSame (with_flag true i c.args.self.now)
+    subst (λ (x : Standing). IsSameButRoom (with_flag true i c.args.self.now)
     (counters_in places (set ls i (record x { is_false = true })) members
     c.lower_groups.new.groups.items c.lower_groups.new.falsified.firsts room)) (sym at)
-    (subst (λ v. IsSame (with_flag true i v) (counters_in places (set ls i (record (standing_at ls i) { is_false = true }))
+    (subst (λ v. IsSameButRoom (with_flag true i v) (counters_in places (set ls i (record (standing_at ls i) { is_false = true }))
     members
     c.lower_groups.new.groups.items c.lower_groups.new.falsified.firsts room)) c.self.view_is
     (told_kept places ls members c.self.inside.groups.items c.lower_groups.new.groups.items

@@ -2,9 +2,9 @@ use Rattle.std.proofs.Common.{◌≡◌, ◌<◌, true, false, refl, sym, ap, su
 use Rattle.std.proofs.lemmas.List.{get_or_read_under}
 use Rattle.std.proofs.lemmas.Bool.{not-false}
 use Rattle.clause_counters.specs.declared.groups.Standing.{Standing}
-use Rattle.clause_counters.specs.Links.{listed, count}
+use Rattle.clause_counters.specs.Links.{numbers_at, count}
 use Rattle.clause_counters.specs.Counted.{standing_at, no_standing}
-use Rattle.clause_counters.specs.CounterState.{counters_in, with_flag, IsSame, fit_three}
+use Rattle.clause_counters.specs.CounterState.{counters_in, with_flag, IsSameButRoom, fit_three}
 use Rattle.clause_counters.proofs.FlagLaws.{told_kept, of_literal, closed_literal}
 use Rattle.clause_counters.proofs.counters.ClauseCounters.reopen.Goals as goal
 
@@ -21,9 +21,9 @@ returns-then-at-eq0 g c =
     let at : c.index_mut.result.now ≡ standing_at ls i =
     get_or_read_under ls i f.literals.len c.index_mut.result.now no_standing c.index_mut.ensures.value within
     f.literals.ok.0 in
-    subst (λ (x : Standing). IsSame (with_flag false i c.args.self.now)
+    subst (λ (x : Standing). IsSameButRoom (with_flag false i c.args.self.now)
     (counters_in places (set ls i (record x { is_false = false })) members groups f.falsified.firsts room)) (sym at)
-    (subst (λ v. IsSame (with_flag false i v) (counters_in places (set ls i (record (standing_at ls i) { is_false = false }))
+    (subst (λ v. IsSameButRoom (with_flag false i v) (counters_in places (set ls i (record (standing_at ls i) { is_false = false }))
     members groups f.falsified.firsts room)) c.self.view_is
     (told_kept places ls members groups groups f.falsified.firsts f.falsified.firsts room room false i refl refl))
 
@@ -38,10 +38,10 @@ returns g c =
     let at : c.index_mut.result.now ≡ standing_at ls i =
     get_or_read_under ls i c.self.inside.literals.len c.index_mut.result.now no_standing c.index_mut.ensures.value
     within c.self.inside.literals.ok.0 in
-    subst (λ (x : Standing). IsSame (with_flag false i c.args.self.now)
+    subst (λ (x : Standing). IsSameButRoom (with_flag false i c.args.self.now)
     (counters_in places (set ls i (record x { is_false = false })) members
     c.raise_groups.new.groups.items c.raise_groups.new.falsified.firsts room)) (sym at)
-    (subst (λ v. IsSame (with_flag false i v) (counters_in places (set ls i (record (standing_at ls i) { is_false = false }))
+    (subst (λ v. IsSameButRoom (with_flag false i v) (counters_in places (set ls i (record (standing_at ls i) { is_false = false }))
     members
     c.raise_groups.new.groups.items c.raise_groups.new.falsified.firsts room)) c.self.view_is
     (told_kept places ls members c.self.inside.groups.items c.raise_groups.new.groups.items
@@ -61,8 +61,8 @@ raise_groups-requires-clause-known g c h past =
     c.self.inside.literals.ok.0 in
     let part = of_literal places ls i h (subst (λ n. i < n) c.self.inside.literals.ok.0 within) in
     let none = c.self.invariant.0.known h past in
-    let same = ap (λ (x : Standing). count h (listed places x.groups)) at in
-    let moved = ap (λ ps. count h (listed ps c.index-at.result.now.groups)) c.deref-2.ensures.value in
+    let same = ap (λ (x : Standing). count h (numbers_at places x.groups)) at in
+    let moved = ap (λ ps. count h (numbers_at ps c.index-at.result.now.groups)) c.deref-2.ensures.value in
     omega (arith, part, none, same, moved)
 
 pub raise_groups-requires-clause-few : goal.raise_groups-requires-clause-few
@@ -79,6 +79,6 @@ raise_groups-requires-clause-few g c h =
     let part = closed_literal places ls i h (subst (λ n. i < n) c.self.inside.literals.ok.0 within) decided in
     let few = c.self.invariant.0.few h in
     let counts = c.self.invariant.0.counts h in
-    let same = ap (λ (x : Standing). count h (listed places x.groups)) at in
-    let moved = ap (λ ps. count h (listed ps c.index-at.result.now.groups)) c.deref-2.ensures.value in
+    let same = ap (λ (x : Standing). count h (numbers_at places x.groups)) at in
+    let moved = ap (λ ps. count h (numbers_at ps c.index-at.result.now.groups)) c.deref-2.ensures.value in
     omega (arith, part, few, counts, same, moved)

@@ -3,7 +3,7 @@ use Rattle.std.proofs.Common.{arith}
 use Rattle.std.proofs.lemmas.List.{map_push}
 use Rattle.std.specs.BinaryHeap.{heap_items, heap_capacity}
 use Rattle.clause_counters.specs.declared.falsified_heap.Clause.{Clause}
-use Rattle.clause_counters.specs.FalsifiedHeap.{Tallies, IsHeld, IsFalsifiedHeap, lefts_of, firsts_of, marked}
+use Rattle.clause_counters.specs.FalsifiedHeap.{Tallies, IsHeld, IsFalsifiedHeap, lefts_of, firsts_of, with_mark}
 use Rattle.clause_counters.proofs.HeldLaws.{held_pushed}
 use Rattle.clause_counters.proofs.HeapLaws.{heap_pushed, heap_pushed_falsified, fits_parts}
 use Rattle.clause_counters.proofs.ClauseLaws.{lefts_kept, firsts_kept}
@@ -38,8 +38,8 @@ invariant_of-self g c =
     let new = c.insert_entry.new.heap in
     let x : Clause = record { first_of_parent = c.args.first_of_parent; left = c.args.left; is_in_heap = false } in
     let is : c.len-clause.result ≡ length cs = c.len-clause.ensures ∙ c.self.inside.clauses.ok.0 in
-    let e = c.insert_entry.ensures.marked ∙ (ap (marked true c.len-clause.result) c.push_reserved.ensures.items
-    ∙ ap (λ n. marked true n (cs ++ x ∷ [])) is) in
+    let e = c.insert_entry.ensures.marked ∙ (ap (with_mark true c.len-clause.result) c.push_reserved.ensures.items
+    ∙ ap (λ n. with_mark true n (cs ++ x ∷ [])) is) in
     subst (λ items. IsFalsifiedHeap items (heap_items new) (heap_capacity new)) (sym e)
     (heap_pushed_falsified cs (heap_items c.self.inside.heap) (heap_items new) (heap_capacity c.self.inside.heap)
     (heap_capacity new) x

@@ -1,6 +1,6 @@
 use Rattle.std.proofs.Common.{◌≡◌, ◌-◌, ◌<◌, true, sym, ap, subst, ◌∙◌}
 use Rattle.std.proofs.lemmas.List.{get_or_read_under}
-use Rattle.clause_counters.specs.FalsifiedHeap.{clause_at, no_clause, lefts_of, firsts_of, Tallies}
+use Rattle.clause_counters.specs.FalsifiedHeap.{heap_clause, no_heap_clause, lefts_of, firsts_of, Tallies}
 use Rattle.clause_counters.proofs.ClauseLaws.{told_lefts, told_firsts, left_read, within_from_left, lefts_kept}
 use Rattle.clause_counters.proofs.ClauseLaws.{firsts_kept}
 use Rattle.clause_counters.proofs.falsified_heap.FalsifiedHeap.lower.Goals as goal
@@ -12,8 +12,8 @@ returns-then-not-at-clause-lefts g c =
     let cs = c.self.inside.clauses.items in
     let lefts = c.args.self.now.lefts in
     let view = ap (λ (u : Tallies). u.lefts) c.self.view_is in
-    let at : c.index-at.result.now ≡ clause_at cs c.args.clause =
-    get_or_read_under cs c.args.clause c.self.inside.clauses.len c.index-at.result.now no_clause c.index-at.ensures
+    let at : c.index-at.result.now ≡ heap_clause cs c.args.clause =
+    get_or_read_under cs c.args.clause c.self.inside.clauses.len c.index-at.result.now no_heap_clause c.index-at.ensures
     (subst (λ n. c.args.clause < n) (sym c.self.inside.clauses.ok.0)
     (within_from_left cs lefts c.args.clause view c.requires))
     c.self.inside.clauses.ok.0 in
@@ -33,8 +33,8 @@ returns-else-at-eq1-clause-lefts g c =
     let cs = c.self.inside.clauses.items in
     let lefts = c.args.self.now.lefts in
     let view = ap (λ (u : Tallies). u.lefts) c.self.view_is in
-    let at : c.index-at.result.now ≡ clause_at cs c.args.clause =
-    get_or_read_under cs c.args.clause c.self.inside.clauses.len c.index-at.result.now no_clause c.index-at.ensures
+    let at : c.index-at.result.now ≡ heap_clause cs c.args.clause =
+    get_or_read_under cs c.args.clause c.self.inside.clauses.len c.index-at.result.now no_heap_clause c.index-at.ensures
     (subst (λ n. c.args.clause < n) (sym c.self.inside.clauses.ok.0)
     (within_from_left cs lefts c.args.clause view c.requires))
     c.self.inside.clauses.ok.0 in

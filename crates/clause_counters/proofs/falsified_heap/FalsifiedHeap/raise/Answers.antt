@@ -1,15 +1,15 @@
 use Rattle.std.proofs.Common.{◌≡◌, ◌+◌, ◌<◌, length, sym, ap, subst, ◌∙◌}
 use Rattle.std.proofs.lemmas.List.{get_or_read_under, length-map}
 use Rattle.clause_counters.specs.declared.falsified_heap.Clause.{Clause}
-use Rattle.clause_counters.specs.FalsifiedHeap.{clause_at, no_clause, Tallies}
+use Rattle.clause_counters.specs.FalsifiedHeap.{heap_clause, no_heap_clause, Tallies}
 use Rattle.clause_counters.proofs.ClauseLaws.{told_lefts, told_firsts, left_read}
 use Rattle.clause_counters.proofs.falsified_heap.FalsifiedHeap.raise.Goals as goal
 
 pub returns-clause-lefts : goal.returns-clause-lefts
 returns-clause-lefts g c =
     let cs = c.self.inside.clauses.items in
-    let at : c.index.result.now ≡ clause_at cs c.args.clause =
-    get_or_read_under cs c.args.clause c.self.inside.clauses.len c.index.result.now no_clause c.index.ensures
+    let at : c.index.result.now ≡ heap_clause cs c.args.clause =
+    get_or_read_under cs c.args.clause c.self.inside.clauses.len c.index.result.now no_heap_clause c.index.ensures
     (subst (λ n. c.args.clause < n) (ap (λ (t : Tallies). length t.lefts) (sym c.self.view_is)
     ∙ (length-map cs (λ (x : Clause). x.left) ∙ sym c.self.inside.clauses.ok.0)) c.requires.within)
     c.self.inside.clauses.ok.0 in
