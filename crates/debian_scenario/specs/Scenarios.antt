@@ -16,7 +16,7 @@ pub record ScenarioText : Type 0 where
   pub request : RequestText
   pub packages : List PackageText
 
--- the packages of these stanzas, before which there are so many packages
+-- the packages of these stanzas; `before` counts those before the first of them
 abbrev pub packages_from : ℕ → List (List (List ℕ)) → Result (List PackageText) ScenarioFault
 packages_from before [] = Ok []
 packages_from before (stanza ∷ rest) =

@@ -24,7 +24,7 @@ pub enum StanzaFault {
 pub enum ScenarioFault {
     /// It is the request.
     Request(StanzaFault),
-    /// It is a package; so many packages are before it.
+    /// It is a package; the number counts the packages before it.
     Package(usize, StanzaFault),
 }
 

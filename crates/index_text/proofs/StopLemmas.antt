@@ -40,7 +40,7 @@ module _ (format : VersionFormat) (kind : LineKind) (words : List (List ℕ)) wh
       → expected_from format kind At.First words ≡ expected_of_entries format kind words
   no_surplus few = ap by_length few
 
--- so many words are passed, and these are left
+-- `passed` words are read, and these are left
 module _ (text : List ℕ) (passed all : ℕ) (counted : passed + length (words text) ≡ all) where
   module _ (word rest : List ℕ) (split : words text ≡ word ∷ words rest) where
     pub one_passed : (passed + 1) + length (words rest) ≡ all

@@ -121,7 +121,7 @@ fn alone<'t>(entry: Entry<'t>, words: &[&str]) -> Option<Entry<'t>>
     if words.is_empty() { Some(entry) } else { None }
 }
 
-/// The entries of these words; none if a line can't have so many.
+/// The entries of these words; none if a line can't have that many words.
 #[tactic(auto, using(crate::proofs::EntryLemmas::too_many_entries))]
 pub(crate) fn entries<'t>(
     alloc: Global,

@@ -36,7 +36,7 @@ are_of same universe (Some name) (version ∷ versions) =
 abbrev pub says_of : {N S A : Type 0} → (N → N → Bool) → Universe N S → Option N → Line N S A → Bool
 says_of same universe name line = are_of same universe name line.versions.items
 
--- for how many further links of a chain a line of text has room, in a report of so many lines
+-- how many further links of a chain fit into a line of text, if the report has `count` lines
 abbrev pub room_of : ℕ → ℕ
 room_of count = if nat_lt 20 count then 2 else 0
 
@@ -56,7 +56,7 @@ room_after false full room = full
 
 -- of a line: its text, the package that it needs, and whether it says something of one
 module _ {N L : Type 0} (text : L → List ℕ) (needed : L → Option N) (says : Option N → L → Bool) where
-  -- the lines behind one that needs this package; its line of text has room for so many further ones
+  -- the lines behind one that needs this package; `room` further ones fit into its line of text
   abbrev pub others_text : ℕ → ℕ → Option N → List L → List ℕ
   others_text full room name [] = codes "\n"
   others_text full room name (line ∷ lines) =

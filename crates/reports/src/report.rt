@@ -45,7 +45,7 @@ fn write_lines<P: DependencyProvider>(
     write_others(provider, first, room_of(lines.len()), others, text)
 }
 
-/// Appends the lines behind the first one. A line of text has room for so many further links of a chain.
+/// Appends the lines behind the first one. `full` further links of a chain fit into a line of text.
 fn write_others<P: DependencyProvider>(
     provider: &P,
     first: &Line<P::NameId, P::SolvableId, P::Alloc>,
@@ -69,7 +69,7 @@ fn write_others<P: DependencyProvider>(
     Ok(text.push_str("\n")?)
 }
 
-/// How many further links of a chain a line of text has room for, in a report of so many lines.
+/// How many further links of a chain fit into a line of text, if the report has this many lines.
 fn room_of(count: usize) -> usize
     ensures { result ≡ room_of count }
 {
