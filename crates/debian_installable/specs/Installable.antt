@@ -69,13 +69,18 @@ is_same _ = false
 abbrev pub have_one_architecture : List ℕ → PackageText → PackageText → Bool
 have_one_architecture native p q = bytes_eq (architecture_of native p) (architecture_of native q)
 
+-- q may serve one of this architecture, whose relation has this behind its colon
+abbrev pub serves_architecture : List ℕ → List ℕ → PackageText → Option (List ℕ) → Bool
+serves_architecture native architecture q None =
+    bytes_eq architecture (architecture_of native q) || is_foreign q.multi_arch
+serves_architecture native architecture q (Some qualifier) =
+    if bytes_eq qualifier (codes "any")
+    then bytes_eq architecture (architecture_of native q) || is_foreign q.multi_arch || is_allowed q.multi_arch
+    else bytes_eq qualifier (architecture_of native q)
+
 -- q may serve p, where a relation of p has this behind its colon
 abbrev pub serves : List ℕ → PackageText → PackageText → Option (List ℕ) → Bool
-serves native p q None = have_one_architecture native p q || is_foreign q.multi_arch
-serves native p q (Some qualifier) =
-    if bytes_eq qualifier (codes "any")
-    then have_one_architecture native p q || is_foreign q.multi_arch || is_allowed q.multi_arch
-    else bytes_eq qualifier (architecture_of native q)
+serves native p q qualifier = serves_architecture native (architecture_of native p) q qualifier
 
 -- a conflict is with every architecture, if it names none
 abbrev pub is_concerned : List ℕ → PackageText → Option (List ℕ) → Bool

@@ -46,7 +46,7 @@ fn stands_beside(native: &[u8], one: &Package<'_>, others: &[Package<'_>]) -> bo
         .all(|other| may_stand_beside(native, one, other))
 }
 
-fn may_stand_beside(native: &[u8], one: &Package<'_>, other: &Package<'_>) -> bool
+pub fn may_stand_beside(native: &[u8], one: &Package<'_>, other: &Package<'_>) -> bool
     ensures { result ≡ may_stand_beside native.now (plain_package one.now) (plain_package other.now) }
 {
     !have_one_name(one, other)
@@ -100,7 +100,12 @@ fn is_met(native: &[u8], there: &[Package<'_>], one: &Package<'_>, part: &[u8]) 
 }
 
 /// Whether a relation of a package is met by another one.
-fn is_met_by(native: &[u8], one: &Package<'_>, relation: &Relation<'_>, other: &Package<'_>) -> bool
+pub fn is_met_by(
+    native: &[u8],
+    one: &Package<'_>,
+    relation: &Relation<'_>,
+    other: &Package<'_>,
+) -> bool
     ensures { result ≡ is_met_by native.now (plain_package one.now) (plain_relation relation.now)
         (plain_package other.now) }
 {
@@ -131,7 +136,7 @@ fn is_free(native: &[u8], there: &[Package<'_>], one: &Package<'_>, part: &[u8])
 }
 
 /// Whether a package doesn't conflict with another one by this relation of it.
-fn is_free_of(
+pub fn is_free_of(
     native: &[u8],
     one: &Package<'_>,
     relation: &Relation<'_>,

@@ -8,4 +8,9 @@ mod fields;
 mod installable;
 mod relations;
 
-pub use installable::is_installable;
+pub use fields::is_blank;
+pub use installable::{is_free_of, is_installable, is_met_by, may_stand_beside};
+pub use relations::{
+    architecture_of, have_one_architecture, have_one_name, is_concerned, is_same, means, serves,
+    serves_architecture,
+};

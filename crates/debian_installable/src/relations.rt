@@ -13,7 +13,7 @@ use debian_versions::compare;
 use std::cmp::Ordering;
 
 /// Whether a relation means this package, or something that it provides.
-pub(crate) fn means(relation: &Relation<'_>, one: &Package<'_>) -> bool
+pub fn means(relation: &Relation<'_>, one: &Package<'_>) -> bool
     ensures { result ≡ means (plain_relation relation.now) (plain_package one.now) }
 {
     (relation.name == one.identity.name && meets(relation.bound, Some(one.identity.version)))
@@ -66,7 +66,7 @@ fn is_in_order(operator: Operator, order: Ordering) -> bool
 }
 
 /// Whether one package may serve another one that names it with this behind the colon.
-pub(crate) fn serves(
+pub fn serves(
     native: &[u8],
     one: &Package<'_>,
     other: &Package<'_>,
@@ -75,19 +75,31 @@ pub(crate) fn serves(
     ensures { result ≡ serves native.now (plain_package one.now) (plain_package other.now)
         (option_map (λ q. q.now) qualifier.entry) }
 {
+    serves_architecture(native, architecture_of(native, one), other, qualifier)
+}
+
+/// Whether a package may serve one of this architecture that names it with this behind the colon.
+pub fn serves_architecture(
+    native: &[u8],
+    architecture: &[u8],
+    other: &Package<'_>,
+    qualifier: Option<&[u8]>,
+) -> bool
+    ensures { result ≡ serves_architecture native.now architecture.now (plain_package other.now)
+        (option_map (λ q. q.now) qualifier.entry) }
+{
+    let own = architecture_of(native, other);
     match qualifier {
-        None => have_one_architecture(native, one, other) || is_foreign(other.multi_arch),
+        None => architecture == own || is_foreign(other.multi_arch),
         Some(b"any") => {
-            have_one_architecture(native, one, other)
-                || is_foreign(other.multi_arch)
-                || is_allowed(other.multi_arch)
+            architecture == own || is_foreign(other.multi_arch) || is_allowed(other.multi_arch)
         }
-        Some(architecture) => architecture == architecture_of(native, other),
+        Some(named) => named == own,
     }
 }
 
 /// Whether a conflict that has this behind the colon concerns a package.
-pub(crate) fn is_concerned(native: &[u8], one: &Package<'_>, qualifier: Option<&[u8]>) -> bool
+pub fn is_concerned(native: &[u8], one: &Package<'_>, qualifier: Option<&[u8]>) -> bool
     ensures { result ≡ is_concerned native.now (plain_package one.now) (option_map (λ q. q.now) qualifier.entry) }
 {
     match qualifier {
@@ -96,20 +108,20 @@ pub(crate) fn is_concerned(native: &[u8], one: &Package<'_>, qualifier: Option<&
     }
 }
 
-pub(crate) fn have_one_name(one: &Package<'_>, other: &Package<'_>) -> bool
+pub fn have_one_name(one: &Package<'_>, other: &Package<'_>) -> bool
     ensures { result ≡ have_one_name (plain_package one.now) (plain_package other.now) }
 {
     one.identity.name == other.identity.name
 }
 
-pub(crate) fn have_one_architecture(native: &[u8], one: &Package<'_>, other: &Package<'_>) -> bool
+pub fn have_one_architecture(native: &[u8], one: &Package<'_>, other: &Package<'_>) -> bool
     ensures { result ≡ have_one_architecture native.now (plain_package one.now) (plain_package other.now) }
 {
     architecture_of(native, one) == architecture_of(native, other)
 }
 
 /// The architecture of a package; `all` is the native one.
-fn architecture_of<'t>(native: &'t [u8], one: &Package<'t>) -> &'t [u8]
+pub fn architecture_of<'t>(native: &'t [u8], one: &Package<'t>) -> &'t [u8]
     ensures { result.now ≡ architecture_of native.now (plain_package one.now) }
 {
     match one.identity.architecture {
@@ -130,7 +142,7 @@ fn is_allowed(multi_arch: MultiArch) -> bool
     matches!(multi_arch, MultiArch::Allowed)
 }
 
-pub(crate) fn is_same(multi_arch: MultiArch) -> bool
+pub fn is_same(multi_arch: MultiArch) -> bool
     ensures { result ≡ is_same multi_arch }
 {
     matches!(multi_arch, MultiArch::Same)

@@ -43,7 +43,8 @@ bound_of text = bound_signed (prefix_len is_of_sign (trimmed text)) (trimmed tex
 
 -- the bound behind a `(`: there is a `)` at the end
 abbrev pub bound_closed : List ℕ → Option BoundText
-bound_closed text = if slice_index_or text (length text - 1) 0 == 41 then bound_of (take (length text - 1) text) else None
+bound_closed text =
+    if slice_index_or text (length text - 1) 0 == 41 then bound_of (take (length text - 1) text) else None
 
 abbrev pub bound_in : List ℕ → Option BoundText
 bound_in text = bound_closed (trimmed text)

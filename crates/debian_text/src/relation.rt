@@ -7,7 +7,7 @@ ghost use Rattle.debian_text.specs.Relations.{bound_in, bound_of, is_of_sign, op
 use crate::cuts::{cut_at, trimmed, version, word};
 
 /// A package, and which of its versions.
-#[derive(Clone, Copy, Debug, PartialEq, Eq)]
+#[derive(Clone, Copy, Debug, PartialEq, Eq, Hash)]
 pub struct Relation<'t> {
     pub name: &'t [u8],
     /// What is behind the colon of its name: an architecture, or `any`.
@@ -17,14 +17,14 @@ pub struct Relation<'t> {
 }
 
 /// How versions compare with one.
-#[derive(Clone, Copy, Debug, PartialEq, Eq)]
+#[derive(Clone, Copy, Debug, PartialEq, Eq, Hash)]
 pub struct Bound<'t> {
     pub operator: Operator,
     pub version: &'t [u8],
 }
 
 /// Where versions stand in Debian's order, beside one.
-#[derive(Clone, Copy, Debug, PartialEq, Eq)]
+#[derive(Clone, Copy, Debug, PartialEq, Eq, Hash)]
 pub enum Operator {
     /// `<<`
     Earlier,

@@ -41,6 +41,8 @@ pub(crate) struct Wishes<A: Allocator> {
     active: usize,
     /// How many of these are decided already.
     decided: usize,
+    /// How many of those whose first alternative isn't so are decided first next time.
+    stride: usize,
     /// For each wish how many alternatives came before the first that was so in the last solution.
     ranks: Vec<usize, A>,
     alloc: A,
@@ -53,6 +55,7 @@ impl<A: Allocator + Copy> Wishes<A> {
             lists: Vec::new(alloc),
             active: 0,
             decided: 0,
+            stride: 1,
             ranks: Vec::new(alloc),
             alloc,
         }
@@ -156,16 +159,22 @@ impl<A: Allocator + Copy> Wishes<A> {
         true
     }
 
-    /// Lets the wishes up to the next one whose first alternative isn't so in the last solution be decided first.
-    /// Answers whether there is such a wish.
+    /// Lets more wishes be decided first: up to the next ones whose first alternative isn't so in the last solution, as
+    /// many of these as `stride` says, and twice as many the next time. Answers whether there is such a wish.
     pub(crate) fn activate(&mut self) -> bool {
-        for place in self.active..self.ranks.len() {
+        let before = self.active;
+        let mut left = self.stride;
+        for place in before..self.ranks.len() {
+            if left == 0 {
+                break;
+            }
             if self.ranks.get(place) != Some(&0) {
                 self.active = place.saturating_add(1);
-                return true;
+                left = left.saturating_sub(1);
             }
         }
-        false
+        self.stride = self.stride.saturating_mul(2);
+        self.active > before
     }
 
     /// How many there are.
