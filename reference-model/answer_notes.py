@@ -4,7 +4,7 @@ import math
 from best import better_than, spare, unneeded, wishes_of
 from indexes import has, holds, is_among, is_met, need_text, said, span_text
 from judging import UP_TO, listed, version_in
-from reasons import is_enough, unsaid
+from reasons import is_enough, spare_ones, unsaid
 
 # Limits of what is tried: of the versions of an index, and of their choices and the ways to meet a condition.
 VERSIONS, CHOICES = 64, 2**17
@@ -47,14 +47,20 @@ def judge_none(notes, listing, reasons):
     verdict = "so: no choice is a solution" if solution is None else f"wrong: a solution is {listed(solution)}"
     notes.add(f"    none: {f'not tried: {obstacle}' if obstacle else verdict}", solution is None)
     wrong = unsaid(index, reasons)
+    are_enough = not obstacle and is_enough(index, reasons)
+    spare_lines = spare_ones(index, reasons) if are_enough and not wrong else []
     for line in reasons:
-        verdict = "wrong: the index says no such thing" if line in wrong else f"so{place_of(listing, line)}"
-        notes.add(f"    {line}: {verdict}", line not in wrong)
+        if line in wrong:
+            notes.add(f"    {line}: wrong: the index says no such thing", False)
+        elif line in spare_lines:
+            notes.add(f"    {line}: wrong: it is spare{place_of(listing, line)}: the others are enough", False)
+        else:
+            notes.add(f"    {line}: so{place_of(listing, line)}")
     if obstacle:
         notes.add("whether the reasons are enough isn't tried")
     else:
-        is_so = is_enough(index, reasons)
-        notes.add("the reasons are enough: no choice meets them all" if is_so else "the reasons aren't enough", is_so)
+        verdict = "are enough: no choice meets them all" if are_enough else "aren't enough"
+        notes.add(f"the reasons {verdict}", are_enough)
 
 
 def place_of(listing, line):
