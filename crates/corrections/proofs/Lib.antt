@@ -1,0 +1,2 @@
+pub mod CorrectionLemmas
+pub mod MarkLemmas

@@ -1,0 +1,3 @@
+pub mod Corrections
+pub mod Marks
+pub mod Outcomes
