@@ -1,10 +1,13 @@
 -- Why a smallest correction is one.
-use Rattle.std.proofs.Common.{◌≡◌, ◌∙◌, ◌⊎◌, ℕ, ◌+◌, ◌<◌, ◌≤◌, Bool, true, false, List, [], ◌∷◌, ◌++◌, ap, Option, None, Some, length, take, replicate, get_or, refl, sym, subst, true≢false, arith, inl, inr}
+use Rattle.std.proofs.Common.{◌≡◌, ◌∙◌, ◌⊎◌, ℕ, ◌+◌, ◌<◌, ◌≤◌, Bool, true, false, List, [], ◌∷◌, ◌++◌, ap, Option}
+use Rattle.std.proofs.Common.{None, Some, length, take, replicate, get_or, refl, sym, subst, true≢false, arith, inl}
+use Rattle.std.proofs.Common.{inr}
 use Rattle.std.specs.Prelude.{Result, Ok, Err, IfOk}
 use Rattle.std.specs.List.{All, Contains}
 use Rattle.std.specs.declared.vec.Vec.{Vec}
 use Rattle.std.proofs.lemmas.Bool.{cases_lt}
-use Rattle.std.proofs.lemmas.List.{get_or-take, get_or_append_left, get_or_default, get_or_push, length-take-le, length_push}
+use Rattle.std.proofs.lemmas.List.{get_or-take, get_or_append_left, get_or_default, get_or_push, length-take-le}
+use Rattle.std.proofs.lemmas.List.{length_push}
 use Rattle.std.proofs.lemmas.List.Elements.{All-more, Contains-get_or}
 use Rattle.resolvo_pool.specs.Functions.{Provider}
 use Rattle.resolvo_pool.specs.Types.ConditionalRequirement.{ConditionalRequirement}
@@ -30,7 +33,8 @@ module _ {N S : Type 0} (p : Provider N S) (requested : List ConditionalRequirem
       cover fewer (λ k d below within. omega (arith, least k d below, size-le (get_or level k d).items fewer within))
 
   -- the empty set is a cover
-  pub cover_of_empty : {A : Type 0} (none : Vec Bool A) (n : ℕ) (sets : List (Vec Bool A)) → none.items ≡ replicate n false → sets ≡ none ∷ []
+  pub cover_of_empty : {A : Type 0} (none : Vec Bool A) (n : ℕ) (sets : List (Vec Bool A)) → none.items ≡ replicate
+      n false → sets ≡ none ∷ []
       → IsCover p requested sets
   cover_of_empty none n sets empty is left_out has =
       let all : HasNone left_out (none ∷ []) = subst (HasNone left_out) is has in
@@ -38,19 +42,23 @@ module _ {N S : Type 0} (p : Provider N S) (requested : List ConditionalRequirem
       absurd (true≢false (sym marked ∙ subst (λ marks. is_marked marks place ≡ false) (sym empty) (unmarked n place)))))
 
   -- all sets of a cover are refuted
-  pub covered : {A : Type 0} (level next : List (Vec Bool A)) → IsCover p requested level → AreRefuted next level → IsCover p requested next
+  pub covered : {A : Type 0} (level next : List (Vec Bool A)) → IsCover p requested level → AreRefuted next level →
+      IsCover p requested next
   covered level next cover refuted left_out none picked solution =
       cover left_out (λ k d below within. refuted left_out none k d below within picked solution) picked solution
 
   -- one more is refuted
-  pub refuted_more : {A : Type 0} (level next new : List (Vec Bool A)) (i : ℕ) (s conflict : Vec Bool A) → i < length level → s ≡ get_or level i s
-      → Extends next new s.items conflict.items → IsConflict p requested conflict → AreRefuted next (take i level) → AreRefuted new (take (i + 1) level)
+  pub refuted_more : {A : Type 0} (level next new : List (Vec Bool A)) (i : ℕ) (s conflict : Vec Bool A) → i <
+      length level → s ≡ get_or level i s
+      → Extends next new s.items conflict.items → IsConflict p requested conflict → AreRefuted next (take i level) →
+      AreRefuted new (take (i + 1) level)
   refuted_more {A} level next new i s conflict below is extends conflicting refuted left_out none =
       let P = λ (t : Vec Bool A). IsWithin t.items left_out → IsUnsolvable p (kept left_out requested) in
       let now = extends left_out none in
       All-more P level i s below (refuted left_out now.0) (subst P is (λ within. conflicting left_out (now.1 within)))
 
-  module _ (left_out conflict other : List Bool) (reasons : List (Reason N S)) (marked : AreNamedMarked requested left_out reasons conflict)
+  module _ (left_out conflict other : List Bool) (reasons : List (Reason N S))
+      (marked : AreNamedMarked requested left_out reasons conflict)
       (apart : AreApart conflict other) where
     still_has : (reason : Reason N S) → Contains reasons reason → (c : ConditionalRequirement) → IsNamedBy c reason
         → Contains (kept left_out requested) c → Contains (kept other requested) c
@@ -59,7 +67,8 @@ module _ {N S : Type 0} (p : Provider N S) (requested : List ConditionalRequirem
         kept_has other requested c at.0 at.1
         (apart at.0 (marked at.0 c at.1 at.2 (reason, among, subst (λ d. IsNamedBy d reason) (sym at.3) names))) at.3
 
-    still_so : (reason : Reason N S) → Contains reasons reason → IsSo p (kept left_out requested) reason → IsSo p (kept other requested) reason
+    still_so : (reason : Reason N S) → Contains reasons reason → IsSo p (kept left_out requested) reason → IsSo p
+        (kept other requested) reason
     still_so (R.Needs None c) among so = still_has (R.Needs None c) among c (inl refl) so
     still_so (R.Needs (Some parent) c) among so = so
     still_so (R.Lacks None c) among so = (still_has (R.Lacks None c) among c (inr refl) so.0, so.1)
@@ -74,18 +83,24 @@ module _ {N S : Type 0} (p : Provider N S) (requested : List ConditionalRequirem
     all_still_so so k d below = still_so (get_or reasons k d) (Contains-get_or reasons k d below) (so k d below)
 
   -- the requirements that the reasons name are in conflict
-  pub conflict_by_reasons : {A : Type 0} (itself : (n : N) → p.same_name n n ≡ true) (same_itself : (s : S) → p.same_solvable s s ≡ true)
-      (equal : (s t : S) → p.same_solvable s t ≡ true → s ≡ t) (left_out : List Bool) (reasons : List (Reason N S)) (conflict : Vec Bool A)
-      → AreNamedMarked requested left_out reasons conflict.items → AreSo p (kept left_out requested) reasons → AreEnough p reasons
+  pub conflict_by_reasons : {A : Type 0} (itself : (n : N) → p.same_name n n ≡ true)
+      (same_itself : (s : S) → p.same_solvable s s ≡ true)
+      (equal : (s t : S) → p.same_solvable s t ≡ true → s ≡ t) (left_out : List Bool) (reasons : List (Reason N S))
+      (conflict : Vec Bool A)
+      → AreNamedMarked requested left_out reasons conflict.items → AreSo p (kept left_out requested) reasons →
+      AreEnough p reasons
       → IsConflict p requested conflict
   conflict_by_reasons itself same_itself equal left_out reasons conflict marked so enough other apart =
-      none_by_reasons p itself same_itself equal (kept other requested) reasons (all_still_so left_out conflict.items other reasons marked apart so) enough
+      none_by_reasons p itself same_itself equal (kept other requested) reasons
+      (all_still_so left_out conflict.items other reasons marked apart so) enough
 
 -- one more requirement, and its mark
-pub marked_more : {N S : Type 0} (requested : List ConditionalRequirement) (left_out : List Bool) (reasons : List (Reason N S)) (marks new : List Bool) (i : ℕ)
+pub marked_more : {N S : Type 0} (requested : List ConditionalRequirement) (left_out : List Bool)
+    (reasons : List (Reason N S)) (marks new : List Bool) (i : ℕ)
     (x : ConditionalRequirement) (m : Bool) → i < length requested → x ≡ get_or requested i x → new ≡ marks ++ m ∷ []
     → (is_marked left_out i ≡ false → IsNamed reasons x → m ≡ true)
-    → (length marks ≡ i) × AreNamedMarked (take i requested) left_out reasons marks → (length new ≡ i + 1) × AreNamedMarked (take (i + 1) requested) left_out reasons new
+    → (length marks ≡ i) × AreNamedMarked (take i requested) left_out reasons marks → (length new ≡ i + 1) ×
+    AreNamedMarked (take (i + 1) requested) left_out reasons new
 marked_more requested left_out reasons marks new i x m below is pushed names_it had =
     let marked = λ (place : ℕ). λ (l : List Bool). is_marked l place ≡ true in (
       ap length pushed ∙ length_push marks m ∙ ap (λ n. n + 1) had.0,
@@ -95,12 +110,16 @@ marked_more requested left_out reasons marks new i x m below is pushed names_it 
           elim (cases_lt place i) [
             | inl lt ↦
                 let before = subst (IsNamed reasons) (in_all ∙ sym (get_or-take i requested place d lt)) names in
-                let short : place < length (take i requested) = omega (arith, length-take-le i requested (omega arith)) in
-                subst (marked place) (sym pushed) (get_or_append_left marks (m ∷ []) false place (omega (arith, had.0)) ∙ had.1 place d short out before)
+                let short : place < length (take i requested) = omega
+                (arith, length-take-le i requested (omega arith)) in
+                subst (marked place) (sym pushed) (get_or_append_left marks (m ∷ []) false place
+                (omega (arith, had.0)) ∙ had.1 place d short out before)
             | inr ge ↦
                 let same : place ≡ i = omega arith in
-                let at = subst (IsNamed reasons) (in_all ∙ ap (λ k. get_or requested k d) same ∙ get_or_default requested i d x below ∙ sym is) names in
-                subst (marked place) (sym pushed) (ap (λ k. get_or (marks ++ m ∷ []) k false) same ∙ get_or_push marks m false i had.0
+                let at = subst (IsNamed reasons) (in_all ∙ ap (λ k. get_or requested k d) same ∙ get_or_default
+                requested i d x below ∙ sym is) names in
+                subst (marked place) (sym pushed) (ap (λ k. get_or (marks ++ m ∷ []) k false) same ∙ get_or_push
+                marks m false i had.0
                 ∙ names_it (subst (λ k. is_marked left_out k ≡ false) same out) at)
           ],
     )

@@ -1,2 +1,3 @@
 pub mod CorrectionLemmas
 pub mod MarkLemmas
+pub mod ProposalLemmas

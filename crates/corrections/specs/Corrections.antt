@@ -12,7 +12,7 @@ use Rattle.corrections.specs.declared.correcting.Correction.{Correction}
 module _ {N S : Type 0} (p : Provider N S) (requested : List ConditionalRequirement) where
   -- what is picked is a solution of the requirements that aren't left out; each requirement has a mark
   abbrev pub Corrects : {A : Type 0} → Correction S A → Type 0
-  Corrects correction = IsSolution p (kept correction.left_out.items requested) correction.choice.solvables.items
+  Corrects correction = IsSolution p (kept correction.left_out.items requested) correction.solvables.items
       × (length correction.left_out.items ≡ length requested)
 
   -- without fewer requirements there is no solution
@@ -21,7 +21,8 @@ module _ {N S : Type 0} (p : Provider N S) (requested : List ConditionalRequirem
 
   -- where none of these is left out, there is no solution
   abbrev pub IsConflict : {A : Type 0} → Vec Bool A → Type 0
-  IsConflict conflict = (left_out : List Bool) → AreApart conflict.items left_out → IsUnsolvable p (kept left_out requested)
+  IsConflict conflict = (left_out : List Bool) → AreApart conflict.items left_out → IsUnsolvable p
+      (kept left_out requested)
 
   abbrev pub AreConflicts : {A : Type 0} → List (Vec Bool A) → Type 0
   AreConflicts conflicts = All IsConflict conflicts
@@ -39,6 +40,7 @@ abbrev pub IsNamed : {N S : Type 0} → List (Reason N S) → ConditionalRequire
 IsNamed {N} {S} reasons conditional = (reason : Reason N S) × Contains reasons reason × IsNamedBy conditional reason
 
 -- each requirement that they name, and that isn't left out, is marked
-abbrev pub AreNamedMarked : {N S : Type 0} → List ConditionalRequirement → List Bool → List (Reason N S) → List Bool → Type 0
+abbrev pub AreNamedMarked : {N S : Type 0} → List ConditionalRequirement → List Bool → List (Reason N S) → List Bool
+    → Type 0
 AreNamedMarked requested left_out reasons marks = (place : ℕ) (d : ConditionalRequirement) → place < length requested →
     is_marked left_out place ≡ false → IsNamed reasons (slice_index_or requested place d) → is_marked marks place ≡ true

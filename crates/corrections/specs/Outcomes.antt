@@ -1,7 +1,6 @@
 -- What an outcome of the search says.
 use Rattle.std.specs.Prelude.{Bool, List, ⊤}
 use Rattle.std.specs.declared.vec.Vec.{Vec}
-use Rattle.picking.specs.declared.finding.Choice.{Choice}
 use Rattle.corrections.specs.declared.correcting.Correction.{Correction}
 use Rattle.corrections.specs.declared.correcting.Level.{Level}
 use Rattle.corrections.specs.declared.correcting.Level.TheVariants as L
@@ -9,14 +8,14 @@ use Rattle.corrections.specs.declared.correcting.Tried.{Tried}
 use Rattle.corrections.specs.declared.correcting.Tried.TheVariants as T
 
 -- if there is a solution, it has this
-abbrev pub IfSolved : {S A : Type 0} → (Choice S A → Type 0) → Tried S A → Type 0
-IfSolved Has (T.Solved choice) = Has choice
+abbrev pub IfSolved : {S A : Type 0} → (Vec S A → Type 0) → Tried S A → Type 0
+IfSolved Has (T.Solved solvables) = Has solvables
 IfSolved Has (T.Conflict conflict) = ⊤
 IfSolved Has T.Unknown = ⊤
 
 -- if there is a conflict, it has this
 abbrev pub IfConflict : {S A : Type 0} → (Vec Bool A → Type 0) → Tried S A → Type 0
-IfConflict Has (T.Solved choice) = ⊤
+IfConflict Has (T.Solved solvables) = ⊤
 IfConflict Has (T.Conflict conflict) = Has conflict
 IfConflict Has T.Unknown = ⊤
 

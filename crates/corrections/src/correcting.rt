@@ -7,18 +7,18 @@ ghost use Rattle.solutions.specs.Solutions.{IsSolution};
 
 use crate::marks::{add_extensions, are_as_large, find_apart, size};
 use crate::without::{kept, named};
-use picking::{Answer, Choice, pick};
+use picking::{Answer, pick};
 use resolvo_ids::StoreError;
 use resolvo_pool::{ConditionalRequirement, DependencyProvider, ProviderFunctions};
 use std::alloc::Allocator;
 
-/// Requirements to leave out, and what is picked without them.
+/// Requirements to leave out, and a solution of the others.
 #[derive(Debug, Drop)]
 pub struct Correction<S, A: Allocator> {
     /// For each requirement of the request, in order, whether it is left out.
     pub left_out: Vec<bool, A>,
-    /// The solution of the others.
-    pub choice: Choice<S, A>,
+    /// What is picked without them.
+    pub solvables: Vec<S, A>,
 }
 
 /// What to search for, and how long.
@@ -35,7 +35,7 @@ struct Task<'r> {
 #[derive(Drop)]
 enum Tried<S, A: Allocator> {
     /// A solution of the other requirements.
-    Solved(Choice<S, A>),
+    Solved(Vec<S, A>),
     /// Some of the others that can't all stay.
     Conflict(Vec<bool, A>),
     /// Neither.
@@ -115,7 +115,7 @@ fn try_level<D: DependencyProvider>(
     let mut next = Vec::new(alloc);
     for set in level {
         match try_without(alloc, provider, task, set, conflicts)? {
-            Tried::Solved(choice) => return found(alloc, task, level, set, choice),
+            Tried::Solved(solvables) => return found(alloc, task, level, set, solvables),
             Tried::Conflict(conflict) => add_extensions(&mut next, set, &conflict)?,
             Tried::Unknown => return Ok(Level::Unknown),
         }
@@ -133,8 +133,8 @@ fn try_without<D: DependencyProvider>(
 ) -> Result<Tried<D::SolvableId, D::Alloc>, StoreError>
     requires { AreConflicts (⟦<D as ProviderFunctions>⟧.functions provider.now) task.now.requested.now
         conflicts.old.items }
-    ensures solved { IfOk result (IfSolved (λ choice. IsSolution (⟦<D as ProviderFunctions>⟧.functions provider.now)
-        (kept left_out.now task.now.requested.now) choice.solvables.items)) }
+    ensures solved { IfOk result (IfSolved (λ solvables. IsSolution (⟦<D as ProviderFunctions>⟧.functions provider.now)
+        (kept left_out.now task.now.requested.now) solvables.items)) }
     ensures conflict { IfOk result (IfConflict (IsConflict (⟦<D as ProviderFunctions>⟧.functions provider.now)
         task.now.requested.now)) }
     ensures conflicts { OnOk result (AreConflicts (⟦<D as ProviderFunctions>⟧.functions provider.now)
@@ -157,14 +157,14 @@ fn search_without<D: DependencyProvider>(
     task: &Task<'_>,
     left_out: &[bool],
 ) -> Result<Tried<D::SolvableId, D::Alloc>, StoreError>
-    ensures solved { IfOk result (IfSolved (λ choice. IsSolution (⟦<D as ProviderFunctions>⟧.functions provider.now)
-        (kept left_out.now task.now.requested.now) choice.solvables.items)) }
+    ensures solved { IfOk result (IfSolved (λ solvables. IsSolution (⟦<D as ProviderFunctions>⟧.functions provider.now)
+        (kept left_out.now task.now.requested.now) solvables.items)) }
     ensures conflict { IfOk result (IfConflict (IsConflict (⟦<D as ProviderFunctions>⟧.functions provider.now)
         task.now.requested.now)) }
 {
     let rest = kept(alloc, task.requested, left_out)?;
     match pick(alloc, provider, &rest, task.steps)? {
-        Answer::Picked(choice) => Ok(Tried::Solved(choice)),
+        Answer::Picked(choice) => Ok(Tried::Solved(choice.solvables)),
         Answer::Unsolvable(refutation) => {
             let conflict = named(alloc, task.requested, left_out, &refutation.reasons)?;
             Ok(Tried::Conflict(conflict))
@@ -179,9 +179,9 @@ fn found<S: Drop, A: Allocator>(
     task: &Task<'_>,
     level: &[Vec<bool, A>],
     set: &[bool],
-    choice: Choice<S, A>,
+    solvables: Vec<S, A>,
 ) -> Result<Level<S, A>, StoreError>
-    ensures found { IfOk result (IfFound (λ correction. (correction.choice ≡ choice)
+    ensures found { IfOk result (IfFound (λ correction. (correction.solvables ≡ solvables)
         × (correction.left_out.items ≡ set.now) × (length set.now ≡ length task.now.requested.now))) }
     ensures smallest { IfOk result (IfFound (λ correction. All (λ other. size set.now ≤ size other.items) level.now)) }
     ensures next { IfOk result (IfNext (λ next. ⊥)) }
@@ -191,6 +191,6 @@ fn found<S: Drop, A: Allocator>(
     }
     Ok(Level::Found(Correction {
         left_out: set.to_vec(alloc)?,
-        choice,
+        solvables,
     }))
 }

@@ -8,6 +8,8 @@
 
 mod correcting;
 mod marks;
+mod proposals;
 mod without;
 
 pub use correcting::{Correction, smallest_correction};
+pub use proposals::{named_in, write_proposals};

@@ -3,11 +3,9 @@
 //! A provider that is watched notes whose dependencies are queried, and counts the questions whether to stop
 //! (`watched`). A search over an index tells what it noted (`seen`). `queries` tests that a search queries no more than
 //! it has to, `stopping` that a provider, or a number of steps, ends it, and `wishes` which wishes are granted. The
-//! indexes are in `indexes`. `corrections` tests what is left out of a request that has no solution.
+//! indexes are in `indexes`.
 #![tactic(auto)]
 
-#[cfg(test)]
-mod corrections;
 #[cfg(test)]
 mod indexes;
 #[cfg(test)]

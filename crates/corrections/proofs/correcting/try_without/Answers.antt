@@ -12,8 +12,10 @@ use Rattle.corrections.proofs.correcting.try_without.Goals.{in-Conflict+in_ok-to
 
 -- the provider's functions
 abbrev provided : (g : Over) → g.row.D.Denot → Provider g.row.D-NameId.Denot g.row.D-SolvableId.Denot
-provided g = gathered g.D.NameId.PartialEq.eq g.D.SolvableId.PartialEq.eq g.D.NameId.Slots.IdMap.is_too_large g.D.SolvableId.Slots.IdMap.is_too_large
-    g.D.SolvableId.Set.IdSet.is_too_large g.D.NameId.SolverId.are_many g.D.Interner.universe g.D.DependencyProvider.answers
+provided g = gathered g.D.NameId.PartialEq.eq g.D.SolvableId.PartialEq.eq g.D.NameId.Slots.IdMap.is_too_large
+    g.D.SolvableId.Slots.IdMap.is_too_large
+    g.D.SolvableId.Set.IdSet.is_too_large g.D.NameId.SolverId.are_many g.D.Interner.universe
+    g.D.DependencyProvider.answers
 
 pub returns-in-Some-clause-conflict : goal.returns-in-Some-clause-conflict
 returns-in-Some-clause-conflict g c = λ left apart.
@@ -22,8 +24,10 @@ returns-in-Some-clause-conflict g c = λ left apart.
     let conflicts = c.args.conflicts.now.items in
     let known = c.in-Some.conflict.now in
     let same : c.in_ok-to_vec.field-0.items ≡ known.items = search rules in
-    let among : Contains conflicts known = subst (λ (l : List (Vec Bool g.row.D-Alloc.Denot)). Contains l known) c.deref.ensures.value c.in-Some.ensures.0 in
-    All-contains (IsConflict p requested) conflicts known c.requires among left (subst (λ m. AreApart m left) same apart)
+    let among : Contains conflicts known = subst (λ (l : List (Vec Bool g.row.D-Alloc.Denot)). Contains l known)
+    c.deref.ensures.value c.in-Some.ensures.0 in
+    All-contains (IsConflict p requested) conflicts known c.requires among left
+    (subst (λ m. AreApart m left) same apart)
 
 pub returns-clause-conflicts : goal.returns-clause-conflicts
 returns-clause-conflicts g c =
@@ -38,6 +42,7 @@ returns-clause-conflicts g c =
           let pushed : w.push.new.self.items ≡ conflicts ++ new ∷ [] = search rules in
           let found = subst (IfConflict (IsConflict p requested)) w.in-Conflict.is c.in_ok-tried.ensures.conflict in
           subst All_of (sym w.conflicts-is) (subst (AreConflicts p requested) (sym pushed)
-          (All-push (IsConflict p requested) conflicts new c.requires (λ left apart. found left (subst (λ m. AreApart m left) same apart))))
+          (All-push (IsConflict p requested) conflicts new c.requires
+          (λ left apart. found left (subst (λ m. AreApart m left) same apart))))
       | in_default-tried w ↦ subst All_of (sym w.conflicts-is) c.requires
     ]

@@ -12,12 +12,17 @@ loop-place-preserved g c = λ other none.
     let at = c.loop-place.place in
     elim c.if-is_in_conflict.branch [
       | then-is_in_conflict+in_ok-add_with w ↦
-          let now = w.in_ok-add_with.ensures other (subst (λ (s : Vec (Vec Bool g.row.A.Denot) g.row.A.Denot). HasNone other s.items) w.sets-is none) in
+          let now = w.in_ok-add_with.ensures other (subst
+          (λ (s : Vec (Vec Bool g.row.A.Denot) g.row.A.Denot). HasNone other s.items) w.sets-is none) in
           let had = c.loop-place.invariant other now.0 in
           (had.0, λ within. below_more P at (had.1 within) (λ marked. now.1 within))
       | else-is_in_conflict w ↦
-          let had = c.loop-place.invariant other (subst (λ (s : Vec (Vec Bool g.row.A.Denot) g.row.A.Denot). HasNone other s.items) w.sets-is none) in
-          (had.0, λ within. below_more P at (had.1 within) (λ marked. absurd (true≢false (sym marked ∙ w.if-is_in_conflict.false))))
+          let had = c.loop-place.invariant other (subst
+          (λ (s : Vec (Vec Bool g.row.A.Denot) g.row.A.Denot). HasNone other s.items) w.sets-is none) in (
+            had.0,
+            λ within. below_more P at (had.1 within)
+                (λ marked. absurd (true≢false (sym marked ∙ w.if-is_in_conflict.false))),
+          )
     ]
 
 pub returns : goal.returns

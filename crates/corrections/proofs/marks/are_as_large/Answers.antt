@@ -10,7 +10,8 @@ pub loop-set-preserved : goal.loop-set-preserved
 loop-set-preserved g c =
     let P = λ (s : Vec Bool g.row.A.Denot). c.args.least ≤ size s.items in
     All-more P c.args.sets.now c.loop-set.set-index c.set-item.result c.loop-set-test.true c.loop-set.invariant
-    (subst P c.set-item.is (subst (λ n. c.args.least ≤ n) (c.size.ensures ∙ ap size c.deref.ensures.value) c.if-size-least.false))
+    (subst P c.set-item.is (subst (λ n. c.args.least ≤ n) (c.size.ensures ∙ ap size c.deref.ensures.value)
+    c.if-size-least.false))
 
 pub returns : goal.returns
 returns g c = λ yes.

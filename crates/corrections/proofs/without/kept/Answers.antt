@@ -19,9 +19,11 @@ loop-place-preserved g c =
       | then-not-is_marked+in_ok-push w ↦
           let x = c.index-requested-place.result in
           let pushed : w.push.new.self.items ≡ c.loop-place.rest.items ++ x ∷ [] = search rules in
-          subst Are (sym w.rest-is) (kept_pushed marks requested at x c.loop-place.rest.items w.push.new.self.items c.loop-place-test.true
+          subst Are (sym w.rest-is) (kept_pushed marks requested at x c.loop-place.rest.items w.push.new.self.items
+          c.loop-place-test.true
           c.index-requested-place.is (sym c.is_marked.ensures ∙ w.if-not-is_marked.true) pushed c.loop-place.invariant)
       | else-not-is_marked w ↦
-          subst Are (sym w.rest-is) (kept_passed marks requested at c.loop-place.rest.items (sym c.is_marked.ensures ∙ w.if-not-is_marked.false)
+          subst Are (sym w.rest-is) (kept_passed marks requested at c.loop-place.rest.items
+          (sym c.is_marked.ensures ∙ w.if-not-is_marked.false)
           c.loop-place.invariant)
     ]

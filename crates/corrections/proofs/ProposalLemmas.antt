@@ -1,0 +1,66 @@
+-- Why a request that has what the reasons name has no solution, and how the text of proposals is put together.
+use Rattle.std.proofs.Common.{◌≡◌, ◌∙◌, ℕ, ◌+◌, ◌<◌, zero, suc, true, List, [], ◌∷◌, ◌++◌, Option, None, Some}
+use Rattle.std.proofs.Common.{ap, append_assoc, arith, get_or, length, refl, subst, sym, take}
+use Rattle.std.specs.List.{All, Contains, cons_option, filter_map}
+use Rattle.std.proofs.lemmas.List.{take_more}
+use Rattle.std.proofs.lemmas.List.Elements.{All-contains, filter_map-append}
+use Rattle.resolvo_pool.specs.Functions.{Provider}
+use Rattle.resolvo_pool.specs.Types.ConditionalRequirement.{ConditionalRequirement}
+use Rattle.solutions.specs.Reasons.{AreEnough, AreSo, IsSo}
+use Rattle.solutions.specs.declared.reason.Reason.{Reason}
+use Rattle.solutions.specs.declared.reason.Reason.TheVariants as R
+use Rattle.solutions.proofs.ReasonLaws.{none_by_reasons}
+use Rattle.corrections.specs.Proposals.{IsForbidden, named_in, requirement_in}
+
+-- what is in a list is in a longer one
+still_in : {X : Type 0} (head : Option X) (xs : List X) (x : X) → Contains xs x → Contains (cons_option head xs) x
+still_in None xs x has = has
+still_in (Some y) xs x has = (suc has.0, omega (arith, has.1), has.2)
+
+-- what a reason names is among what the reasons name
+named_has : {N S : Type 0} (reasons : List (Reason N S)) (k : ℕ) (d : Reason N S) (c : ConditionalRequirement)
+    → k < length reasons → requirement_in (get_or reasons k d) ≡ Some c → Contains (named_in reasons) c
+named_has [] k d c below is = absurd (omega (arith, below))
+named_has (r ∷ reasons) zero d c below is =
+    subst (λ o. Contains (cons_option o (named_in reasons)) c) (sym is) (0, omega arith, refl)
+named_has (r ∷ reasons) (suc k) d c below is =
+    still_in (requirement_in r) (named_in reasons) c (named_has reasons k d c (omega (arith, below)) is)
+
+module _ {N S : Type 0} (p : Provider N S) (requested other : List ConditionalRequirement) where
+  -- a reason is still so of a request that has what it names
+  so_of : (r : Reason N S) → ((c : ConditionalRequirement) → requirement_in r ≡ Some c → Contains other c)
+      → IsSo p requested r → IsSo p other r
+  so_of (R.Needs None c) has so = has c refl
+  so_of (R.Needs (Some parent) c) has so = so
+  so_of (R.Lacks None c) has so = (has c refl, so.1)
+  so_of (R.Lacks (Some parent) c) has so = so
+  so_of (R.Limits solvable set) has so = so
+  so_of (R.Unknown solvable string) has so = so
+  so_of (R.Excluded solvable string) has so = so
+  so_of (R.Locked solvable) has so = so
+  so_of (R.OneVersion name) has so = so
+
+  pub all_so_of : (reasons : List (Reason N S)) → All (Contains other) (named_in reasons) → AreSo p requested reasons
+      → AreSo p other reasons
+  all_so_of reasons all so k d below =
+      so_of (get_or reasons k d)
+      (λ c is. All-contains (Contains other) (named_in reasons) c all (named_has reasons k d c below is)) (so k d below)
+
+pub forbidden_by : {N S : Type 0} (p : Provider N S) (itself : (n : N) → p.same_name n n ≡ true)
+    (same_itself : (s : S) → p.same_solvable s s ≡ true)
+    (equal : (s t : S) → p.same_solvable s t ≡ true → s ≡ t) (reasons : List (Reason N S))
+    → AreEnough p reasons → (requested : List ConditionalRequirement) → AreSo p requested reasons
+    → IsForbidden p (named_in reasons)
+forbidden_by p itself same_itself equal reasons enough requested so other all =
+    none_by_reasons p itself same_itself equal other reasons (all_so_of p requested other reasons all so) enough
+
+-- one more reason
+pub named_more : {N S : Type 0} (reasons : List (Reason N S)) (i : ℕ) (r : Reason N S)
+    (had now : List ConditionalRequirement) → i < length reasons → r ≡ get_or reasons i r
+    → now ≡ had ++ cons_option (requirement_in r) [] → had ≡ named_in (take i reasons)
+    → now ≡ named_in (take (i + 1) reasons)
+named_more reasons i r had now below is pushed before =
+    pushed ∙ ap (λ l. l ++ cons_option (requirement_in r) []) before
+    ∙ ap (λ x. named_in (take i reasons) ++ cons_option (requirement_in x) []) is
+    ∙ sym (filter_map-append requirement_in (take i reasons) (get_or reasons i r ∷ []))
+    ∙ ap named_in (sym (take_more reasons i r below))
