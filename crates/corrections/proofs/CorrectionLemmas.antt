@@ -18,6 +18,9 @@ use Rattle.solutions.specs.declared.reason.Reason.TheVariants as R
 use Rattle.solutions.proofs.ReasonLaws.{none_by_reasons}
 use Rattle.corrections.specs.Corrections.{AreNamedMarked, IsConflict, IsCover, IsNamed, IsNamedBy, IsSmallest}
 use Rattle.corrections.specs.Marks.{AreApart, Extends, HasNone, IsWithin, is_marked, kept, size}
+use Rattle.corrections.specs.Outcomes.{IfFound}
+use Rattle.corrections.specs.declared.correcting.Level.{Level}
+use Rattle.corrections.specs.declared.correcting.Level.TheVariants as L
 use Rattle.corrections.proofs.MarkLemmas.{kept_has, kept_place, size-le, unmarked}
 
 module _ {N S : Type 0} (p : Provider N S) (requested : List ConditionalRequirement) where
@@ -31,6 +34,19 @@ module _ {N S : Type 0} (p : Provider N S) (requested : List ConditionalRequirem
       → All (λ s. size left_out ≤ size s.items) level → IsSmallest p requested left_out
   smallest_in level left_out cover least fewer less =
       cover fewer (λ k d below within. omega (arith, least k d below, size-le (get_or level k d).items fewer within))
+
+  -- so is one that is found, if it is this set
+  pub smallest_found : {A E : Type 0} (level : List (Vec Bool A)) (left_out : List Bool) (solvables : Vec S A) (n : ℕ)
+      (result : Result (Level S A) E) → IsCover p requested level
+      → IfOk result (IfFound (λ correction. (correction.solvables ≡ solvables)
+      × (correction.left_out.items ≡ left_out) × (length left_out ≡ n)))
+      → IfOk result (IfFound (λ correction. All (λ s. size left_out ≤ size s.items) level))
+      → IfOk result (IfFound (λ correction. IsSmallest p requested correction.left_out.items))
+  smallest_found level left_out solvables n (Ok (L.Found correction)) cover found least =
+      subst (IsSmallest p requested) (sym found.1) (smallest_in level left_out cover least)
+  smallest_found level left_out solvables n (Ok (L.Next sets)) cover found least = tt
+  smallest_found level left_out solvables n (Ok L.Unknown) cover found least = tt
+  smallest_found level left_out solvables n (Err e) cover found least = tt
 
   -- the empty set is a cover
   pub cover_of_empty : {A : Type 0} (none : Vec Bool A) (n : ℕ) (sets : List (Vec Bool A)) → none.items ≡ replicate

@@ -1,9 +1,8 @@
--- Why a request that has what the reasons name has no solution, and how the text of proposals is put together.
-use Rattle.std.proofs.Common.{◌≡◌, ◌∙◌, ℕ, ◌+◌, ◌<◌, zero, suc, true, List, [], ◌∷◌, ◌++◌, Option, None, Some}
-use Rattle.std.proofs.Common.{ap, append_assoc, arith, get_or, length, refl, subst, sym, take}
-use Rattle.std.specs.List.{All, Contains, cons_option, filter_map}
-use Rattle.std.proofs.lemmas.List.{take_more}
-use Rattle.std.proofs.lemmas.List.Elements.{All-contains, filter_map-append}
+-- Why a request that has what the reasons name has no solution.
+use Rattle.std.proofs.Common.{◌≡◌, ℕ, ◌<◌, zero, suc, true, List, [], ◌∷◌, Option, None, Some}
+use Rattle.std.proofs.Common.{arith, get_or, length, refl, subst, sym}
+use Rattle.std.specs.List.{All, Contains, cons_option}
+use Rattle.std.proofs.lemmas.List.Elements.{All-contains}
 use Rattle.resolvo_pool.specs.Functions.{Provider}
 use Rattle.resolvo_pool.specs.Types.ConditionalRequirement.{ConditionalRequirement}
 use Rattle.solutions.specs.Reasons.{AreEnough, AreSo, IsSo}
@@ -53,14 +52,3 @@ pub forbidden_by : {N S : Type 0} (p : Provider N S) (itself : (n : N) → p.sam
     → IsForbidden p (named_in reasons)
 forbidden_by p itself same_itself equal reasons enough requested so other all =
     none_by_reasons p itself same_itself equal other reasons (all_so_of p requested other reasons all so) enough
-
--- one more reason
-pub named_more : {N S : Type 0} (reasons : List (Reason N S)) (i : ℕ) (r : Reason N S)
-    (had now : List ConditionalRequirement) → i < length reasons → r ≡ get_or reasons i r
-    → now ≡ had ++ cons_option (requirement_in r) [] → had ≡ named_in (take i reasons)
-    → now ≡ named_in (take (i + 1) reasons)
-named_more reasons i r had now below is pushed before =
-    pushed ∙ ap (λ l. l ++ cons_option (requirement_in r) []) before
-    ∙ ap (λ x. named_in (take i reasons) ++ cons_option (requirement_in x) []) is
-    ∙ sym (filter_map-append requirement_in (take i reasons) (get_or reasons i r ∷ []))
-    ∙ ap named_in (sym (take_more reasons i r below))

@@ -41,13 +41,7 @@ pub fn named_in<N, S, A: Allocator>(
 ) -> Result<Vec<ConditionalRequirement, A>, StoreError>
     ensures { IfOk result (λ named. named.items ≡ named_in reasons.now) }
 {
-    let mut named = Vec::new(alloc);
-    for reason in reasons {
-        if let Some(requirement) = requirement_in(reason) {
-            named.push(requirement)?;
-        }
-    }
-    Ok(named)
+    Ok(reasons.iter().filter_map(|reason| requirement_in(reason)).collect(alloc)?)
 }
 
 /// The requirement of the request that a reason names.
