@@ -1,5 +1,5 @@
 -- Sets of places.
-use Rattle.std.proofs.Common.{◌≡◌, ◌∙◌, ◌≢◌, ◌⊎◌, ℕ, ◌+◌, ◌<◌, ◌≤◌, suc, zero, Bool, true, false, cond, List, [], ◌∷◌}
+use Rattle.std.proofs.Common.{◌≡◌, ◌∙◌, ◌≢◌, ℕ, ◌+◌, ◌<◌, ◌≤◌, suc, zero, Bool, true, false, cond, List, [], ◌∷◌}
 use Rattle.std.proofs.Common.{◌++◌, length, take, replicate, get_or, set, ap, refl, sym, subst, true≢false, arith}
 use Rattle.std.proofs.Common.{inl, inr, add-one, zero-add}
 use Rattle.std.specs.List.{All, Any, Contains}

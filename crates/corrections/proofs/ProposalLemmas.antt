@@ -1,6 +1,6 @@
--- Why a request that has what the reasons name has no solution.
-use Rattle.std.proofs.Common.{◌≡◌, ℕ, ◌<◌, zero, suc, true, List, [], ◌∷◌, Option, None, Some}
-use Rattle.std.proofs.Common.{arith, get_or, length, refl, subst, sym}
+-- Why a request that has what the reasons name has no solution; and texts.
+use Rattle.std.proofs.Common.{◌≡◌, ◌∙◌, ℕ, ◌<◌, zero, suc, true, List, [], ◌∷◌, ◌++◌, Option, None, Some}
+use Rattle.std.proofs.Common.{ap, append_assoc, arith, get_or, length, refl, subst, sym}
 use Rattle.std.specs.List.{All, Contains, cons_option}
 use Rattle.std.proofs.lemmas.List.Elements.{All-contains}
 use Rattle.resolvo_pool.specs.Functions.{Provider}
@@ -52,3 +52,10 @@ pub forbidden_by : {N S : Type 0} (p : Provider N S) (itself : (n : N) → p.sam
     → IsForbidden p (named_in reasons)
 forbidden_by p itself same_itself equal reasons enough requested so other all =
     none_by_reasons p itself same_itself equal other reasons (all_so_of p requested other reasons all so) enough
+
+-- what is appended in three steps
+pub in_three : (old first second new head all tail : List ℕ) → first ≡ old ++ head → second ≡ first ++ all
+    → new ≡ second ++ tail → new ≡ old ++ (head ++ (all ++ tail))
+in_three old first second new head all tail begun gone ended =
+    ended ∙ ap (λ text. text ++ tail) (gone ∙ ap (λ text. text ++ all) begun)
+    ∙ append_assoc (old ++ head) all tail ∙ append_assoc old head (all ++ tail)

@@ -1,5 +1,5 @@
 -- Sets of places of a list, as marks: a place is in the set if its mark is true.
-use Rattle.std.specs.Prelude.{◌≡◌, ℕ, ◌<◌, Bool, true, false, cond, All, List, [], ◌∷◌, count_by, slice_index_or}
+use Rattle.std.specs.Prelude.{◌≡◌, ℕ, Bool, true, false, cond, All, List, [], ◌∷◌, count_by, slice_index_or}
 use Rattle.std.specs.declared.vec.Vec.{Vec}
 
 -- the place is in the set

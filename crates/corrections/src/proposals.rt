@@ -41,7 +41,12 @@ pub fn named_in<N, S, A: Allocator>(
 ) -> Result<Vec<ConditionalRequirement, A>, StoreError>
     ensures { IfOk result (λ named. named.items ≡ named_in reasons.now) }
 {
-    Ok(reasons.iter().filter_map(|reason| requirement_in(reason)).collect(alloc)?)
+    Ok(
+        reasons
+            .iter()
+            .filter_map(|reason| requirement_in(reason))
+            .collect(alloc)?,
+    )
 }
 
 /// The requirement of the request that a reason names.

@@ -24,9 +24,9 @@ sizes-init g c =
     let pushed : c.push.new.self.items ≡ c.new-level.result.items ++ none ∷ [] = search rules in
     let is : c.push.new.self.items ≡ none ∷ [] = pushed ∙ ap (λ sets. sets ++ none ∷ []) c.new-level.ensures.items in (
       cover_of_empty p requested none _ c.push.new.self.items
-      (c.in_ok-vec.ensures.items_if_clones_equal (λ mark same. same)) is,
+          (c.in_ok-vec.ensures.items_if_clones_equal (λ mark same. same)) is,
       subst (λ (sets : List (Vec Bool g.row.D-Alloc.Denot)). AreConflicts p requested sets)
-      (sym c.new-conflicts.ensures.items) (All-nil (IsConflict p requested)),
+          (sym c.new-conflicts.ensures.items) (All-nil (IsConflict p requested)),
       refl,
     )
 
@@ -48,8 +48,8 @@ pub returns-in-Found-clause-smallest : goal.returns-in-Found-clause-smallest
 returns-in-Found-clause-smallest g c =
     let p = provided g c.args.provider.now in
     let Smallest = λ (requested : List ConditionalRequirement)
-        (correction : Correction g.row.D-SolvableId.Denot g.row.D-Alloc.Denot).
-        IsSmallest p requested correction.left_out.items in
+    (correction : Correction g.row.D-SolvableId.Denot g.row.D-Alloc.Denot).
+    IsSmallest p requested correction.left_out.items in
     subst (λ (requested : List ConditionalRequirement). Smallest requested c.in-Found.correction) c.sizes.invariant.2
     (subst (IfFound (Smallest c.sizes.task.requested.now)) c.in-Found.is c.in_ok-correction.ensures.smallest)
 
@@ -58,8 +58,8 @@ sizes-preserved g c =
     let p = provided g c.args.provider.now in
     let next = c.in-Next.next.items in (
       subst (λ (requested : List ConditionalRequirement). IsCover p requested next) c.sizes.invariant.2
-      (subst (IfNext (IsCover p c.sizes.task.requested.now)) c.in-Next.is c.in_ok-correction.ensures.next),
+          (subst (IfNext (IsCover p c.sizes.task.requested.now)) c.in-Next.is c.in_ok-correction.ensures.next),
       subst (λ (requested : List ConditionalRequirement). AreConflicts p requested c.try_level.new.conflicts.items)
-      c.sizes.invariant.2 c.in_ok-correction.ensures.conflicts,
+          c.sizes.invariant.2 c.in_ok-correction.ensures.conflicts,
       c.sizes.invariant.2,
     )
