@@ -1,0 +1,3 @@
+pub mod CorrectionLemmas
+pub mod MarkLemmas
+pub mod ProposalLemmas

@@ -1,0 +1,4 @@
+pub mod Corrections
+pub mod Marks
+pub mod Outcomes
+pub mod Proposals
