@@ -25,7 +25,7 @@ pub struct Correction<S, A: Allocator> {
 #[derive(Clone, Copy)]
 struct Task<'r> {
     requested: &'r [ConditionalRequirement],
-    /// How many sets of requirements are tried.
+    /// How many sets of requirements may be tried.
     tries: usize,
     /// How many steps each search may take.
     steps: u64,
@@ -54,8 +54,8 @@ enum Level<S, A: Allocator> {
 }
 
 /// The smallest set of requirements without which the request has a solution; the empty set if it has one as it is.
-/// Nothing if that isn't found among the first `tries` sets that are tried, or if a search takes more than `steps`
-/// steps, or is not certified.
+/// Nothing if there are more than `tries` sets to try, up to those of the size that helps; or if a search takes more
+/// than `steps` steps, or isn't certified.
 pub fn smallest_correction<D: DependencyProvider>(
     alloc: D::Alloc,
     provider: &D,

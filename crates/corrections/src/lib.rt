@@ -4,6 +4,9 @@
 //! is no solution, the reasons name requirements of the request that can't all stay: a conflict. So a set that helps
 //! leaves out one of them. `specs/Corrections` says this in the words of the provider alone, `correcting` has the
 //! search, and `marks` the sets.
+//!
+//! [`write_proposals`] needs no search: it writes the requirements of a request that reasons name (`proposals`). At least
+//! one of them has to be left out, and that may not be enough. `specs/Proposals` says what it promises.
 #![tactic(auto)]
 
 mod correcting;
