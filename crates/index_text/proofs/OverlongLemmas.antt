@@ -1,25 +1,22 @@
 -- A request with too many words is unreadable, whichever versions are written in the index.
 use Rattle.std.proofs.Common.{◌≡◌, ◌∙◌, ℕ, ◌==◌, ◌&&◌, ◌≤◌, Bool, true, false, List, [], ◌∷◌, Option, None, Some}
 use Rattle.std.proofs.Common.{refl, ap, arith, sym, subst}
-use Rattle.std.specs.Prelude.{Result, Ok, Err, IfSome, nat_le, is_some, option_and_then, if◌then◌else◌, codes}
+use Rattle.std.specs.Prelude.{Err, IfSome, nat_le, is_some, option_and_then, if◌then◌else◌, codes}
 use Rattle.std.specs.Str.{bytes_eq}
 use Rattle.index_text.specs.Diagnoses.{is_readable, is_readable_in, is_new, line_in}
 use Rattle.index_text.specs.Entries.{EntryText, all_entries_of, are_too_many}
 use Rattle.index_text.specs.Expected.{expected_from, expected_in, expected_of_line, expected_on, in_format}
 use Rattle.index_text.specs.Formats.{VersionFormat, Numbers, Semver}
-use Rattle.index_text.specs.Index.{IndexText, index_of, or_fault, versions_of, with_request}
-use Rattle.index_text.specs.Indexes.{NumberedWords, words_in}
+use Rattle.index_text.specs.Index.{index_of, or_fault, versions_of, with_request}
+use Rattle.index_text.specs.Indexes.{NumberedWords}
 use Rattle.index_text.specs.Lines.{all_needs, behind_format, request_said, version_said}
 use Rattle.index_text.specs.Overlong.{behind_semver, is_overlong}
 use Rattle.index_text.specs.Written.{is_semver_request, format_of, with_versions, written}
-use Rattle.index_text.specs.declared.expected.Expected.{Expected}
 use Rattle.index_text.specs.declared.expected.Expected.TheVariants as Is
 use Rattle.index_text.specs.declared.place.LineKind.TheVariants.{Request}
 use Rattle.index_text.specs.declared.place.Place.TheVariants as At
 use Rattle.std.proofs.lemmas.Bool.{eq-eqb, le-leb}
 use Rattle.script_text.proofs.Printing.{both}
-use Rattle.script_text.specs.Lines.{is_printed}
-use Rattle.script_text.specs.Words.{words as words_of}
 use Rattle.semver.specs.Parse.{Parts}
 
 abbrev format_by : Bool → List Parts → VersionFormat
