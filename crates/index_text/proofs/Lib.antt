@@ -5,6 +5,7 @@ pub mod EntryLemmas
 pub mod LineLemmas
 pub mod OrderLaws
 pub mod OrderLemmas
+pub mod OverlongLemmas
 pub mod PartLemmas
 pub mod Printed
 pub mod SemverTexts

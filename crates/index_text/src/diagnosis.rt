@@ -1,5 +1,5 @@
 //! Why a line is unreadable.
-ghost use Rattle.std.specs.Prelude.{◌≡◌, not, IfOk, IfSome, is_some, map, option_and_then, option_map};
+ghost use Rattle.std.specs.Prelude.{◌≡◌, false, not, IfOk, IfSome, is_some, map, option_and_then, option_map};
 ghost use Rattle.script_text.specs.Lines.{IsPrinted};
 ghost use Rattle.index_text.specs.Diagnoses.{IsPlace, IsPlaceIn, is_first, is_new, is_readable, line_of, line_in};
 ghost use Rattle.index_text.specs.Expected.{IsTold, expected_in, expected_of_line, in_format};
@@ -12,6 +12,7 @@ ghost use Rattle.index_text.specs.PlainFormats.{plain_format};
 use crate::earlier::earlier_line;
 use crate::expected::Expected;
 use crate::line::Line;
+use crate::overlong::overlong_column;
 use crate::place::LineKind;
 use crate::raw::raw_line;
 use crate::reader::Reader;
@@ -30,6 +31,42 @@ pub struct Diagnosis {
 
 /// Why the line of this number is unreadable, among the lines of its index; none if it is read, or isn't there.
 pub fn diagnose(
+    alloc: Global,
+    lines: &[Line<'_>],
+    number: u64,
+) -> Result<Option<Diagnosis>, AllocError>
+    ensures none { IfOk result (λ fault. not (is_some fault) ≡ is_readable number (map plain_line lines.now)) }
+    ensures place { IfOk result (λ fault. IfSome fault (IsPlaceIn (line_of number lines.now))) }
+    ensures told { IfOk result (λ fault. IfSome fault (IsTold number (map plain_line lines.now))) }
+{
+    match overlong_fault(lines, number) {
+        Some(fault) => Ok(Some(fault)),
+        None => line_fault(alloc, lines, number),
+    }
+}
+
+/// Why the first line is unreadable, if it has this number and is a request that has too many words. Its versions need
+/// not be read for that.
+fn overlong_fault(lines: &[Line<'_>], number: u64) -> Option<Diagnosis>
+    ensures none { IfSome result (λ fault. is_readable number (map plain_line lines.now) ≡ false) }
+    ensures place { IfSome result (IsPlaceIn (line_of number lines.now)) }
+    ensures told { IfSome result (IsTold number (map plain_line lines.now)) }
+{
+    let [first, ..] = lines else {
+        return None;
+    };
+    if first.number != number {
+        return None;
+    }
+    let Some(column) = overlong_column(first) else {
+        return None;
+    };
+    let expected = Expected::LineEnd;
+    Some(Diagnosis { column, expected })
+}
+
+/// Why the line of this number is unreadable, however many words it has.
+fn line_fault(
     alloc: Global,
     lines: &[Line<'_>],
     number: u64,

@@ -138,7 +138,7 @@ fn entries_stop(
 
 /// How many bytes there are from the first word on that is one too many; none if there is no such word.
 #[tactic(auto, using(crate::proofs::StopLemmas::passing))]
-fn surplus_length(words: &[u8]) -> Option<usize>
+pub(crate) fn surplus_length(words: &[u8]) -> Option<usize>
     ensures some { is_some result ≡ are_too_many (words_of words.now) }
     ensures within { IfSome result (λ left. left ≤ length words.now) }
 {
