@@ -9,15 +9,21 @@
 
 mod candidates;
 mod condition_text;
+mod dot;
+mod edges;
 mod line;
 mod line_text;
+mod meant;
 mod merging;
 mod missing;
+mod nearest_name;
 mod report;
 mod versions;
 mod words;
 
+pub use dot::write_dot;
 pub use line::Line;
 pub use merging::merged;
-pub use report::write_report;
+pub use nearest_name::nearest;
+pub use report::{write_report, write_report_with_names};
 pub use solutions::Reason;

@@ -5,8 +5,12 @@
 #![tactic(auto)]
 
 #[cfg(test)]
+mod graphs;
+#[cfg(test)]
 mod many;
 mod reporting;
+#[cfg(test)]
+mod slips;
 
 use reporting::write_reports;
 use std::io::Read;
