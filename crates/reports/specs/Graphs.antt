@@ -19,7 +19,7 @@ module _ {N S : Type 0} (same_name : N → N → Bool) (universe : Universe N S)
   abbrev pub forbids : Reason N S → N → Bool
   forbids (Limits solvable set) name = universe.knows_set set && same_name (universe.set_name set) name
   forbids (Locked solvable) name = universe.knows_solvable solvable && same_name (universe.solvable_name solvable) name
-  forbids (OneVersion package) name = same_name package name
+  forbids (OneVersion other) name = same_name other name
   forbids reason name = false
 
 -- whether the version set holds one of the versions, of those that are known

@@ -103,7 +103,11 @@ fn write_escaped<A: Allocator>(label: &str, text: &mut String<A>) -> Done
 fn before_letter(letter: char) -> &'static str
     ensures { result.now ≡ before_letter letter }
 {
-    if letter == '"' || letter == '\\' { "\\" } else { "" }
+    if letter == '"' || letter == '\\' {
+        "\\"
+    } else {
+        ""
+    }
 }
 
 /// Appends the edges from each line.

@@ -102,7 +102,7 @@ fn forbids<I: Interner>(
         Reason::Locked(solvable) => {
             interner.knows_solvable(solvable) && interner.solvable_name(solvable) == name
         }
-        Reason::OneVersion(package) => package == name,
+        Reason::OneVersion(other) => other == name,
         _ => false,
     }
 }

@@ -1,7 +1,7 @@
 //! A test: the reports of indexes without a solution.
 //!
-//! Each index of standard input is answered by `picking`, and its report is printed. docs/REPORTS has the same indexes
-//! and reports.
+//! Each index of standard input is answered by `picking`, and its report is printed. docs/CONFLICTS has the same
+//! indexes and reports.
 #![tactic(auto)]
 
 #[cfg(test)]
