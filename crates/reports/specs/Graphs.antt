@@ -1,6 +1,6 @@
 -- Reports as graphs, in Graphviz' language. N are the names, S the solvables.
-use Rattle.std.specs.Prelude.{◌≡◌, ℕ, ◌+◌, Bool, true, false, not, ◌==◌, ◌&&◌, ◌||◌, List, [], ◌∷◌, ◌++◌, codes, decimal}
-use Rattle.std.specs.Prelude.{encode_utf8, filter, if◌then◌else◌, length, Option, None, Some}
+use Rattle.std.specs.Prelude.{◌≡◌, ℕ, ◌+◌, Bool, true, false, not, ◌==◌, ◌&&◌, ◌||◌, List, [], ◌∷◌, ◌++◌, codes}
+use Rattle.std.specs.Prelude.{decimal, encode_utf8, filter, if◌then◌else◌, length, Option, None, Some}
 use Rattle.std.specs.List.{list_any}
 use Rattle.std.specs.Str.{chars}
 use Rattle.resolvo_ids.specs.Types.VersionSetId.{VersionSetId}
@@ -40,7 +40,8 @@ module _ {N S : Type 0} (same_name : N → N → Bool) (universe : Universe N S)
 
   -- whether a line speaks of what a requirement offers
   abbrev pub speaks_of : {A : Type 0} → Line N S A → Requirement → Bool
-  speaks_of line requirement = knows_requirement universe requirement && speaks_of_any line (sets_of universe requirement)
+  speaks_of line requirement =
+      knows_requirement universe requirement && speaks_of_any line (sets_of universe requirement)
 
   -- whether the line speaks of what the reason needs
   abbrev pub speaks_of_need : {A : Type 0} → Line N S A → Reason N S → Bool

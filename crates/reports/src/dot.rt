@@ -1,9 +1,9 @@
 //! The lines of a report as a graph, in Graphviz' language.
-ghost use Rattle.std.specs.Prelude.{◌≡◌, ◌++◌, OnOk};
+ghost use Rattle.std.specs.Prelude.{◌≡◌, ◌++◌, codes, OnOk};
 ghost use Rattle.std.specs.Str.{chars};
 ghost use Rattle.resolvo_pool.specs.Texts.{IsAppended, IsContinuedBy};
 ghost use Rattle.reports.specs.Graphs.{IsGraph, edge_text, edges_from, edges_text, escaped, graph_text, leads_to};
-ghost use Rattle.reports.specs.Graphs.{node_text, nodes_text};
+ghost use Rattle.reports.specs.Graphs.{before_letter, node_text, nodes_text};
 ghost use Rattle.reports.specs.LineTexts.{text_of_line};
 
 use crate::edges::leads_to;
@@ -44,6 +44,19 @@ fn write_graph<P: DependencyProvider>(
 {
     text.push_str("digraph reasons {\n  node [shape=box];\n")?;
     write_nodes(provider, lines, text)?;
+    write_edges_and_end(provider, lines, text)
+}
+
+/// Appends the edges, and the end of the graph.
+fn write_edges_and_end<P: DependencyProvider>(
+    provider: &P,
+    lines: &[Line<P::NameId, P::SolvableId, P::Alloc>],
+    text: &mut String<P::Alloc>,
+) -> Done
+    ensures { OnOk result (IsAppended text.old text.new (edges_text
+        (leads_to P.NameId.eq (P.universe provider.now) (P.answers provider.now)) lines.now 0 lines.now
+        ++ codes "}\n")) }
+{
     write_edges(provider, lines, text)?;
     Ok(text.push_str("}\n")?)
 }

@@ -27,8 +27,8 @@ pub fn write_report<P: DependencyProvider>(
     write_report_with_names(provider, &[], reasons, text)
 }
 
-/// Appends the same report. A line that says that there is no package also asks whether the nearest one of these names
-/// is meant, as [`nearest`](crate::nearest_name::nearest) finds it.
+/// Appends the same report, in which a line that says that there is no package also asks whether the nearest one of
+/// these names is meant. [`nearest`](crate::nearest_name::nearest) finds it.
 pub fn write_report_with_names<P: DependencyProvider>(
     provider: &P,
     names: &[P::NameId],

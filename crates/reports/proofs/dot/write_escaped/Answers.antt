@@ -42,5 +42,6 @@ returns g c =
     let text = string_bytes c.loop-letter.text in
     let past = YieldsList-end (YieldsList-from_chars c.args.label.now c.utf8.label cc) c.loop-letter.yielded _
     c.loop-letter.yielded_by _ _ c.in-None.is c.next.ensures.steps in
-    sym (append-nil text) ∙ ap (λ (x : List ℕ). text ++ x) (sym (at_drop_all escaped all so_far (omega (arith, past.1))))
+    sym (append-nil text)
+    ∙ ap (λ (x : List ℕ). text ++ x) (sym (at_drop_all escaped all so_far (omega (arith, past.1))))
     ∙ c.loop-letter.invariant
