@@ -1,6 +1,6 @@
 -- Reports as graphs, in Graphviz' language. N are the names, S the solvables.
 use Rattle.std.specs.Prelude.{◌≡◌, ℕ, ◌+◌, Bool, true, false, not, ◌==◌, ◌&&◌, ◌||◌, List, [], ◌∷◌, ◌++◌, codes}
-use Rattle.std.specs.Prelude.{decimal, encode_utf8, filter, if◌then◌else◌, length, Option, None, Some}
+use Rattle.std.specs.Prelude.{decimal, encode_utf8, filter, if◌then◌else◌, length, Some}
 use Rattle.std.specs.List.{list_any}
 use Rattle.std.specs.Str.{chars}
 use Rattle.resolvo_ids.specs.Types.VersionSetId.{VersionSetId}
