@@ -4,3 +4,5 @@ pub mod Versions
 pub mod ConditionTexts
 pub mod LineTexts
 pub mod Reports
+pub mod Nearest
+pub mod Graphs

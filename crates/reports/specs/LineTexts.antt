@@ -39,7 +39,7 @@ module _ {N S : Type 0} (universe : Universe N S) (texts : Texts N S) where
   abbrev pub text_of_outside : VersionSetId → List S → List ℕ
   text_of_outside set candidates =
       text_of_name universe texts (universe.set_name set)
-      ++ (codes " has " ++ (text_of_all universe texts candidates
+      ++ (codes " has only " ++ (text_of_all universe texts candidates
       ++ (codes ": none is in " ++ texts.version_set set)))
 
   abbrev pub text_of_absence : VersionSetId → List S → List ℕ
@@ -91,7 +91,7 @@ module _ {N S : Type 0} (universe : Universe N S) (texts : Texts N S) where
     text_of_said (Limits solvable set) = codes " allows only " ++ text_of_set universe texts set
     text_of_said (Unknown solvable string) = text_of_why (codes " has unknown dependencies: ") string
     text_of_said (Excluded solvable string) = text_of_why (codes " is excluded: ") string
-    text_of_said (Locked solvable) = codes " is locked"
+    text_of_said (Locked solvable) = codes " is locked: no other version may be picked"
     text_of_said (OneVersion name) = codes "at most one version of " ++ text_of_name universe texts name
 
   -- of whom, and what

@@ -1,5 +1,5 @@
 -- Reports: lines in an order. N are the names, S the solvables.
-use Rattle.std.specs.Prelude.{◌≡◌, ℕ, Bool, true, false, ◌&&◌, ◌-◌, List, [], ◌∷◌, ◌++◌, codes, length, nat_lt}
+use Rattle.std.specs.Prelude.{◌≡◌, ℕ, Bool, true, false, ◌&&◌, ◌-◌, List, [], ◌∷◌, ◌++◌, codes, length, nat_le, nat_lt}
 use Rattle.std.specs.Prelude.{if◌then◌else◌, Option, None, Some}
 use Rattle.resolvo_pool.specs.Provider.{Answers, Universe}
 use Rattle.resolvo_pool.specs.Texts.{Texts}
@@ -7,6 +7,7 @@ use Rattle.resolvo_pool.specs.Types.Requirement.{Requirement}
 use Rattle.resolvo_pool.specs.Types.Requirement.TheVariants.{Single, Union}
 use Rattle.reports.specs.Lines.{AreTold}
 use Rattle.reports.specs.LineTexts.{text_of_line}
+use Rattle.reports.specs.Nearest.{text_of_meant}
 use Rattle.reports.specs.declared.line.Line.{Line}
 use Rattle.solutions.specs.declared.reason.Reason.{Reason}
 use Rattle.solutions.specs.declared.reason.Reason.TheVariants.{Needs}
@@ -36,9 +37,9 @@ are_of same universe (Some name) (version ∷ versions) =
 abbrev pub says_of : {N S A : Type 0} → (N → N → Bool) → Universe N S → Option N → Line N S A → Bool
 says_of same universe name line = are_of same universe name line.versions.items
 
--- how many further links of a chain fit into a line of text, if the report has `count` lines
+-- how many further links of a chain fit into a line of text, if so many lines come behind the first one
 abbrev pub room_of : ℕ → ℕ
-room_of count = if nat_lt 20 count then 2 else 0
+room_of count = if nat_le 20 count then 2 else 0
 
 -- whether a line goes on in the line of text before it, which has this room, if it is the next link of a chain
 abbrev pub goes_on : ℕ → Bool → Bool
@@ -67,14 +68,20 @@ module _ {N L : Type 0} (text : L → List ℕ) (needed : L → Option N) (says 
   abbrev pub lines_text : List L → List ℕ
   lines_text [] = []
   lines_text (first ∷ others) =
-      let full = room_of (length (first ∷ others)) in
+      let full = room_of (length others) in
       text first ++ others_text full full (needed first) others
 
--- a text that tells these reasons, each once, in lines
+-- what a line says, and which one of the names is meant where it says that there is no package
+abbrev pub text_with_names : {N S A : Type 0} → Universe N S → Texts N S → (S → S → Bool) → Answers N S → List N
+    → Line N S A → List ℕ
+text_with_names universe texts same answers names line =
+    text_of_line universe texts same answers line ++ text_of_meant universe texts answers names line.reason
+
+-- a text that tells these reasons, each once, in lines; one of the names is meant where there is no package
 pub record IsReport {N S : Type 0} (A : Type 0) (universe : Universe N S) (texts : Texts N S)
-    (same_name : N → N → Bool) (same : S → S → Bool) (answers : Answers N S) (reasons : List (Reason N S))
-    (text : List ℕ) : Type 0 where
+    (same_name : N → N → Bool) (same : S → S → Bool) (answers : Answers N S) (names : List N)
+    (reasons : List (Reason N S)) (text : List ℕ) : Type 0 where
   pub lines : List (Line N S A)
   pub are_told : AreTold universe.solvable_name reasons lines
-  pub is : text ≡ lines_text (text_of_line universe texts same answers) (needed_by universe)
+  pub is : text ≡ lines_text (text_with_names universe texts same answers names) (needed_by universe)
       (says_of same_name universe) lines

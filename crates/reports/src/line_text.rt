@@ -60,7 +60,7 @@ fn write_said<P: DependencyProvider>(
             text,
         ),
         Reason::Excluded(_, string) => write_why(provider, " is excluded: ", string, text),
-        Reason::Locked(_) => Ok(text.push_str(" is locked")?),
+        Reason::Locked(_) => Ok(text.push_str(" is locked: no other version may be picked")?),
         Reason::OneVersion(name) => {
             text.push_str("at most one version of ")?;
             write_name(provider, name, text)

@@ -132,7 +132,7 @@ fn write_outside<I: Interner>(
         (text_of_outside (I.universe interner.now) (I.texts interner.now) set candidates.now)) }
 {
     write_name(interner, interner.version_set_name(set), text)?;
-    text.push_str(" has ")?;
+    text.push_str(" has only ")?;
     write_all(interner, candidates, text)?;
     text.push_str(": none is in ")?;
     Ok(interner.display_version_set(set, text)?)

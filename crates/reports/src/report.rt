@@ -1,12 +1,12 @@
 //! The report: a line for each thing that is said.
-ghost use Rattle.std.specs.Prelude.{◌≡◌, OnOk};
+ghost use Rattle.std.specs.Prelude.{◌≡◌, [], length, OnOk};
 ghost use Rattle.resolvo_pool.specs.Texts.{IsAppended, IsContinuedBy};
-ghost use Rattle.reports.specs.LineTexts.{text_of_line};
 ghost use Rattle.reports.specs.Reports.{IsReport, between, lines_text, needed_by, others_text, package_of, room_after};
-ghost use Rattle.reports.specs.Reports.{goes_on, room_of, says_of};
+ghost use Rattle.reports.specs.Reports.{goes_on, room_of, says_of, text_with_names};
 
 use crate::line::Line;
 use crate::line_text::write_line;
+use crate::meant::write_meant;
 use crate::merging::merged;
 use resolvo_ids::StoreError;
 use resolvo_pool::{DependencyProvider, Interner, Requirement};
@@ -22,58 +22,90 @@ pub fn write_report<P: DependencyProvider>(
     text: &mut String<P::Alloc>,
 ) -> Result<(), StoreError>
     ensures { OnOk result (IsContinuedBy text.old text.new (IsReport P.Alloc (P.universe provider.now)
-        (P.texts provider.now) P.NameId.eq P.SolvableId.eq (P.answers provider.now) reasons.now)) }
+        (P.texts provider.now) P.NameId.eq P.SolvableId.eq (P.answers provider.now) [] reasons.now)) }
+{
+    write_report_with_names(provider, &[], reasons, text)
+}
+
+/// Appends the same report, in which a line that says that there is no package also asks whether the nearest one of
+/// these names is meant. [`nearest`](crate::nearest_name::nearest) finds it.
+pub fn write_report_with_names<P: DependencyProvider>(
+    provider: &P,
+    names: &[P::NameId],
+    reasons: &[Reason<P::NameId, P::SolvableId>],
+    text: &mut String<P::Alloc>,
+) -> Result<(), StoreError>
+    ensures { OnOk result (IsContinuedBy text.old text.new (IsReport P.Alloc (P.universe provider.now)
+        (P.texts provider.now) P.NameId.eq P.SolvableId.eq (P.answers provider.now) names.now reasons.now)) }
 {
     let lines = merged(*text.allocator(), provider, reasons)?;
-    write_lines(provider, &lines, text)
+    write_lines(provider, names, &lines, text)
 }
 
 /// Appends the lines.
 fn write_lines<P: DependencyProvider>(
     provider: &P,
+    names: &[P::NameId],
     lines: &[Line<P::NameId, P::SolvableId, P::Alloc>],
     text: &mut String<P::Alloc>,
 ) -> Done
     ensures { let universe = P.universe provider.now in OnOk result (IsAppended text.old text.new (lines_text
-        (text_of_line universe (P.texts provider.now) P.SolvableId.eq (P.answers provider.now))
+        (text_with_names universe (P.texts provider.now) P.SolvableId.eq (P.answers provider.now) names.now)
         (needed_by universe) (says_of P.NameId.eq universe) lines.now)) }
 {
     let [first, others @ ..] = lines else {
         return Ok(());
     };
-    write_line(provider, first, text)?;
-    write_others(provider, first, room_of(lines.len()), others, text)
+    write_with_names(provider, names, first, text)?;
+    write_others(provider, names, first, others, text)
 }
 
-/// Appends the lines behind the first one. `full` further links of a chain fit into a line of text.
+/// Appends what a line says, and which one of the names is meant where there is no package.
+fn write_with_names<P: DependencyProvider>(
+    provider: &P,
+    names: &[P::NameId],
+    line: &Line<P::NameId, P::SolvableId, P::Alloc>,
+    text: &mut String<P::Alloc>,
+) -> Done
+    ensures { OnOk result (IsAppended text.old text.new (text_with_names
+        (P.universe provider.now) (P.texts provider.now) P.SolvableId.eq (P.answers provider.now)
+        names.now line.now)) }
+{
+    write_line(provider, line, text)?;
+    write_meant(provider, names, line.reason, text)
+}
+
+/// Appends the lines behind the first one.
 fn write_others<P: DependencyProvider>(
     provider: &P,
+    names: &[P::NameId],
     first: &Line<P::NameId, P::SolvableId, P::Alloc>,
-    full: usize,
     others: &[Line<P::NameId, P::SolvableId, P::Alloc>],
     text: &mut String<P::Alloc>,
 ) -> Done
-    ensures { let universe = P.universe provider.now in OnOk result (IsAppended text.old text.new (others_text
-        (text_of_line universe (P.texts provider.now) P.SolvableId.eq (P.answers provider.now))
+    ensures { let universe = P.universe provider.now in let full = room_of (length others.now) in
+        OnOk result (IsAppended text.old text.new (others_text
+        (text_with_names universe (P.texts provider.now) P.SolvableId.eq (P.answers provider.now) names.now)
         (needed_by universe) (says_of P.NameId.eq universe) full full (needed_by universe first.now) others.now)) }
 {
+    let full = room_of(others.len());
     let mut room = full;
     let mut name = needed_by(provider, first);
     for line in others {
         let joins = goes_on(room, says_of(provider, name, line));
         text.push_str(between(joins))?;
-        write_line(provider, line, text)?;
+        write_with_names(provider, names, line, text)?;
         room = room_after(joins, full, room);
         name = needed_by(provider, line);
     }
     Ok(text.push_str("\n")?)
 }
 
-/// How many further links of a chain fit into a line of text, if the report has this many lines.
+/// How many further links of a chain fit into a line of text, if so many lines come behind the first one.
 fn room_of(count: usize) -> usize
     ensures { result ≡ room_of count }
 {
-    if count > 20 { 2 } else { 0 }
+    if count >= 20 { 2 } else { 0 }
 }
 
 /// The room behind a line that goes on in the line of text before it, or begins one.
@@ -122,7 +154,7 @@ fn package_of<I: Interner>(interner: &I, requirement: Requirement) -> Option<I::
 }
 
 /// Whether a line says something of versions of this package.
-fn says_of<I: Interner>(
+pub(crate) fn says_of<I: Interner>(
     interner: &I,
     name: Option<I::NameId>,
     line: &Line<I::NameId, I::SolvableId, I::Alloc>,

@@ -46,7 +46,7 @@ pub(crate) fn write_versions<P: DependencyProvider>(
 
 /// Those of the solvables that are known.
 #[tactic(auto, using(std::proofs::lemmas::List::Elements::filter_passes))]
-fn known_of<I: Interner>(
+pub(crate) fn known_of<I: Interner>(
     alloc: I::Alloc,
     interner: &I,
     solvables: &[I::SolvableId],

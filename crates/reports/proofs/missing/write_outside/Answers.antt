@@ -16,10 +16,10 @@ returns g c =
     let listed = string_bytes c.write_all.new.text in
     let none_in = string_bytes c.push_str-2.new.self in
     let new = string_bytes c.display_version_set.new.out in
-    in_turn old named new name (codes " has " ++ (all ++ (codes ": none is in " ++ own)))
+    in_turn old named new name (codes " has only " ++ (all ++ (codes ": none is in " ++ own)))
     (as_said old named (text_of_name universe texts c.version_set_name.result) name c.in_ok-write_name.ensures
     (ap (text_of_name universe texts) c.version_set_name.ensures))
-    (in_turn named has new (codes " has ") (all ++ (codes ": none is in " ++ own)) c.in_ok-push_str.ensures.bytes
+    (in_turn named has new (codes " has only ") (all ++ (codes ": none is in " ++ own)) c.in_ok-push_str.ensures.bytes
     (in_turn has listed new all (codes ": none is in " ++ own) c.in_ok-write_all.ensures
     (in_turn listed none_in new (codes ": none is in ") own c.in_ok-push_str-2.ensures.bytes
     c.in_ok-display_version_set.ensures.ok)))
