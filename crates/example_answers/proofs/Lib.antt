@@ -1,3 +1,4 @@
 pub mod AnswerLemmas
+pub mod ExplainLemmas
 pub mod IndexLemmas
 pub mod PrintLemmas

@@ -1,4 +1,5 @@
 pub mod Answers
+pub mod Explained
 pub mod Faults
 pub mod Printed
 pub mod Reasons

@@ -132,7 +132,7 @@ fn answer_index(alloc: Global, index: &SmallIndex, steps: u64) -> Result<AnswerT
 }
 
 /// Says why there is no answer.
-fn answer_fault(alloc: Global, fault: IndexFault) -> Result<AnswerText, AllocError>
+pub(crate) fn answer_fault(alloc: Global, fault: IndexFault) -> Result<AnswerText, AllocError>
     ensures says { IfOk result (λ answered. SaysFault fault answered.outcome (string_bytes answered.text)) }
     ensures unreadable { IfOk result (λ answered. (said : Result IndexText ℕ) → IsFault said fault →
         answered.unreadable ≡ unreadable_in said answered.outcome) }
@@ -160,7 +160,7 @@ fn refused_text(alloc: Global, refused: StoreError) -> Result<String, AllocError
 }
 
 /// Appends notes on an index, as far as there is memory.
-fn write_notes(alloc: Global, index: &SmallIndex, notes: &mut String)
+pub(crate) fn write_notes(alloc: Global, index: &SmallIndex, notes: &mut String)
     ensures { IsContinued notes.old notes.new }
 {
     if let Ok(sets) = index.empty_sets(alloc) {

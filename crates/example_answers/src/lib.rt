@@ -9,11 +9,13 @@
 //! what the index's lines say, after `none` there is no solution, the reasons are true and enough, and a line that is
 //! called unreadable is (`specs/Answers`; `specs/Reasons` has a reason's line).
 //!
-//! [`answer_with_notes`] also notes version sets that no version is in. [`answer_all`] prints the answers of all
-//! indexes of an input, in turn (`specs/Printed`).
+//! [`answer_with_notes`] also notes version sets that no version is in. [`explain_with_notes`] does too, and its answer
+//! says why each version is picked, or reports why there is no solution (`specs/Explained`). [`answer_all`] prints the
+//! answers of all indexes of an input, in turn (`specs/Printed`).
 #![tactic(auto)]
 
 mod answering;
+mod explained;
 mod in_turn;
 mod index_answer;
 mod input_answers;
@@ -22,10 +24,12 @@ mod print_fault;
 mod printer;
 mod reasons;
 mod refusal;
+mod why;
 mod writing;
 mod writing_bytes;
 
 pub use answering::Answering;
+pub use explained::explain_with_notes;
 pub use in_turn::print_in_turn;
 pub use index_answer::{AnswerText, answer, answer_text, answer_with_notes};
 pub use input_answers::answer_all;

@@ -79,7 +79,7 @@ fn write_unknown<I: Interner>(
 }
 
 /// Appends who needs what.
-fn write_need<I: Interner>(
+pub(crate) fn write_need<I: Interner>(
     interner: &I,
     parent: Option<I::SolvableId>,
     conditional: ConditionalRequirement,
@@ -167,7 +167,7 @@ fn write_set<I: Interner>(interner: &I, set: VersionSetId, text: &mut String<I::
     write_requirement(interner, Requirement::Single(set), text)
 }
 
-fn write_solvable<I: Interner>(
+pub(crate) fn write_solvable<I: Interner>(
     interner: &I,
     solvable: I::SolvableId,
     text: &mut String<I::Alloc>,

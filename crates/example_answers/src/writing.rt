@@ -68,7 +68,7 @@ fn write_picked<I: Interner>(
 }
 
 /// Appends by how many of the wishes what is picked is the best, unless it is by all.
-fn write_best<A: Allocator + Copy>(
+pub(crate) fn write_best<A: Allocator + Copy>(
     alloc: A,
     best_up_to: usize,
     wishes: usize,

@@ -4,7 +4,8 @@
 //! `index_text`. For each it prints `request:`, and a solution of what is requested: a line for each version that is
 //! picked; or `none` if there is no solution, and below it why, a line for each thing that is needed or limited there.
 //! If it gives up, or a line is unreadable, it says so, and goes on with the next index. A file that can't be read is
-//! named on standard error. The exit status is that of the worst index: [`Outcome`] has the numbers.
+//! named on standard error. The exit status is that of the worst index: [`Outcome`] has the numbers. With `--why` it
+//! also says why each version is picked, and reports why there is no solution.
 #![tactic(auto)]
 
 mod options;
@@ -17,7 +18,7 @@ ghost use Rattle.example_answers.specs.Status.{status_of};
 use anyhow::{Result, anyhow};
 use example_answers::{Outcome, PrintFault, Printer, print_in_turn};
 use options::Options;
-use remarks::Remarking;
+use remarks::{Explaining, Remarking};
 use std::alloc::Global;
 use std::io::{Read, Write};
 use std::process::ExitCode;
@@ -88,7 +89,7 @@ fn answer_inputs(
             name: "standard input",
             bytes: &bytes,
         };
-        worst = answer_input(rt, alloc, input, options.steps, &mut printer)?;
+        worst = answer_input(rt, alloc, input, options, &mut printer)?;
     }
     for file in &options.files {
         match fs::read(rt, *file) {
@@ -97,7 +98,7 @@ fn answer_inputs(
                     name: *file,
                     bytes: &bytes,
                 };
-                worst = worst.worse(answer_input(rt, alloc, input, options.steps, &mut printer)?);
+                worst = worst.worse(answer_input(rt, alloc, input, options, &mut printer)?);
             }
             Err(fault) => {
                 eprintln!(rt; "{file:?}: {fault}")?;
@@ -113,11 +114,16 @@ fn answer_input<W: Write>(
     rt: &impl Eprint,
     alloc: Global,
     input: Input<'_, '_>,
-    steps: u64,
+    options: &Options<'_>,
     printer: &mut Printer<W>,
 ) -> Result<Outcome> {
-    let mut answering = Remarking::new(rt, steps, input.name);
-    let printed = print_in_turn(alloc, input.bytes, &mut answering, printer);
+    let printed = if options.why {
+        let mut answering = Explaining(Remarking::new(rt, options.steps, input.name));
+        print_in_turn(alloc, input.bytes, &mut answering, printer)
+    } else {
+        let mut answering = Remarking::new(rt, options.steps, input.name);
+        print_in_turn(alloc, input.bytes, &mut answering, printer)
+    };
     match printed {
         Ok(worst) => Ok(worst),
         Err(PrintFault::Memory(refused)) => Err(anyhow!("{refused}")),

@@ -1,5 +1,6 @@
 //! The command line.
 ghost use Rattle.std.specs.Prelude.{◌≡◌, ◌<◌, ◌^◌, ℕ, List, [], None, Some, IfOk, codes, map, option_map, unwrap_or};
+ghost use Rattle.std.specs.Prelude.{false, true};
 ghost use Rattle.std.specs.Str.Parse.{IsNumeral, digits_value, without_leading_plus};
 ghost use Rattle.clap.specs.Words.{found_of, matched_of, one_text, raw_values};
 
@@ -14,6 +15,8 @@ pub const STEPS: u64 = 1 << 20;
 pub struct Options<'a> {
     /// How many steps a search makes at most.
     pub steps: u64,
+    /// Whether answers have explanations.
+    pub why: bool,
     /// The files to read, in turn. Without one it is standard input.
     pub files: Vec<&'a str>,
 }
@@ -32,6 +35,10 @@ fn command<'a>(alloc: Global) -> Result<Command<'a>, AllocError> {
         .value_name("N")
         .value_parser(clap::value_parser!(u64))
         .help("How many steps a search makes at most [default: 1048576]");
+    let why = Arg::new(alloc, "why")
+        .long("why")
+        .action(ArgAction::SetTrue)
+        .help("Says why each version is picked, and reports why there is no solution");
     let files = Arg::new(alloc, "files")
         .value_name("FILE")
         .action(ArgAction::Append)
@@ -41,17 +48,22 @@ fn command<'a>(alloc: Global) -> Result<Command<'a>, AllocError> {
         .bin_name("pick_versions")?
         .about("Picks versions of packages that fit together, or says why none do")
         .arg(steps)?
+        .arg(why)?
         .arg(files)
 }
 
 /// What is asked for, of a command line that is understood: the number that was found for the steps, or [`STEPS`] if
-/// none was, and the files that were found.
+/// none was, whether the flag was found, and the files that were found.
 fn options_of<'a>(alloc: Global, matches: &ArgMatches<'a>) -> Result<Options<'a>, AllocError>
     ensures default { one_text (found_of matches.now) (codes "steps") ≡ None
         → IfOk result (λ options. options.steps ≡ STEPS) }
     ensures given { (text : List ℕ) → one_text (found_of matches.now) (codes "steps") ≡ Some text
         → let digits = without_leading_plus text in IsNumeral 10 digits → digits_value 10 digits < 2 ^ 64
         → IfOk result (λ options. options.steps ≡ digits_value 10 digits) }
+    ensures plain { one_text (found_of matches.now) (codes "why") ≡ Some (codes "false")
+        → IfOk result (λ options. options.why ≡ false) }
+    ensures why { one_text (found_of matches.now) (codes "why") ≡ Some (codes "true")
+        → IfOk result (λ options. options.why ≡ true) }
     ensures files { IfOk result (λ options. map (λ name. name.now) options.files.items
         ≡ unwrap_or (option_map raw_values (matched_of (found_of matches.now) (codes "files"))) []) }
 {
@@ -60,7 +72,11 @@ fn options_of<'a>(alloc: Global, matches: &ArgMatches<'a>) -> Result<Options<'a>
     if let Some(names) = matches.get_strs("files") {
         files.extend_from_slice(names)?;
     }
-    Ok(Options { steps, files })
+    Ok(Options {
+        steps,
+        why: matches.get_flag("why"),
+        files,
+    })
 }
 
 #[cfg(test)]
@@ -81,16 +97,17 @@ mod tests {
     #[test]
     fn reads_steps_and_files(rt: HostRuntime) -> Result<(), Fail> {
         let alloc = rt.alloc();
-        for (line, steps, files) in [
-            ("pick_versions", STEPS, ""),
-            ("pick_versions --steps 7", 7, ""),
-            ("pick_versions a b", STEPS, "a b"),
-            ("pick_versions a --steps=7 b", 7, "a b"),
-            ("pick_versions -- --steps", STEPS, "--steps"),
+        for (line, steps, why, files) in [
+            ("pick_versions", STEPS, false, ""),
+            ("pick_versions --steps 7", 7, false, ""),
+            ("pick_versions --why a b", STEPS, true, "a b"),
+            ("pick_versions a --steps=7 b", 7, false, "a b"),
+            ("pick_versions -- --why", STEPS, false, "--why"),
         ] {
             let words = words(alloc, line)?;
             let options = read(alloc, words.as_slice())?;
             assert_eq!(rt; options.steps, steps, "at {line}");
+            assert_eq!(rt; options.why, why, "at {line}");
             assert_eq!(rt;
                 options.files.join(alloc, " ")?.as_str(),
                 files,
@@ -109,6 +126,7 @@ mod tests {
             ("pick_versions --step 7", ErrorKind::UnknownArgument),
             ("pick_versions --steps", ErrorKind::InvalidValue),
             ("pick_versions --steps x", ErrorKind::ValueValidation),
+            ("pick_versions --why=1", ErrorKind::TooManyValues),
             (
                 "pick_versions --steps 1 --steps 2",
                 ErrorKind::ArgumentConflict,

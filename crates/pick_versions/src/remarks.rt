@@ -1,7 +1,8 @@
 //! What is said on standard error besides an answer: why a line is unreadable, and what is noteworthy of an index.
 ghost use Rattle.example_answers.specs.Answers.{AnswersLines};
+ghost use Rattle.example_answers.specs.Explained.{ExplainsLines};
 
-use example_answers::{AnswerText, Answering, answer_with_notes};
+use example_answers::{AnswerText, Answering, answer_with_notes, explain_with_notes};
 use example_index::SmallIndex;
 use index_text::{Line, diagnose};
 use resolvo_pool::{Interner, ProviderFunctions};
@@ -22,6 +23,12 @@ impl<'r, 'n, R: Eprint> Remarking<'r, 'n, R> {
     pub fn new(rt: &'r R, steps: u64, name: &'n str) -> Self {
         Remarking { rt, steps, name }
     }
+
+    /// Says what there is to say besides this answer to the index of these lines.
+    fn say(&self, alloc: Global, lines: &[Line<'_>], answered: &AnswerText, notes: &String) {
+        say_fault(self.rt, alloc, self.name, lines, answered.unreadable);
+        say_notes(self.rt, self.name, lines, notes);
+    }
 }
 
 impl<R: Eprint> Answering for Remarking<'_, '_, R> {
@@ -30,8 +37,22 @@ impl<R: Eprint> Answering for Remarking<'_, '_, R> {
     fn answer(&mut self, alloc: Global, lines: &[Line<'_>]) -> Result<AnswerText, AllocError> {
         let mut notes = String::new(alloc);
         let answered = answer_with_notes(alloc, lines, self.steps, &mut notes)?;
-        say_fault(self.rt, alloc, self.name, lines, answered.unreadable);
-        say_notes(self.rt, self.name, lines, &notes);
+        self.say(alloc, lines, &answered, &notes);
+        Ok(answered)
+    }
+}
+
+/// The same, with explanations in the answers.
+#[derive(Drop)]
+pub struct Explaining<'r, 'n, R: Eprint>(pub Remarking<'r, 'n, R>);
+
+impl<R: Eprint> Answering for Explaining<'_, '_, R> {
+    ghost answers = { ExplainsLines ⟦<SmallIndex as ProviderFunctions>⟧.functions ⟦<SmallIndex as Interner>⟧.texts };
+
+    fn answer(&mut self, alloc: Global, lines: &[Line<'_>]) -> Result<AnswerText, AllocError> {
+        let mut notes = String::new(alloc);
+        let answered = explain_with_notes(alloc, lines, self.0.steps, &mut notes)?;
+        self.0.say(alloc, lines, &answered, &notes);
         Ok(answered)
     }
 }

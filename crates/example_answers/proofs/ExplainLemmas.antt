@@ -1,0 +1,120 @@
+-- What follows from what a search answers, for an answer with explanations.
+use Rattle.std.proofs.Common.{◌≡◌, ◌<◌, ◌∙◌, ℕ, List, [], ◌∷◌, ◌++◌, Result, Ok, Err, codes, length, append-nil, ap, arith}
+use Rattle.std.proofs.Common.{refl, inl, inr, subst, sym}
+use Rattle.std.specs.declared.alloc.Global.{Global}
+use Rattle.index_text.specs.Index.{IndexText}
+use Rattle.resolvo_pool.specs.Functions.{Provider}
+use Rattle.resolvo_pool.specs.Texts.{Texts}
+use Rattle.resolvo_pool.specs.Types.ConditionalRequirement.{ConditionalRequirement}
+use Rattle.reports.specs.Reports.{IsReport}
+use Rattle.solutions.specs.Needed.{AreCaused}
+use Rattle.solutions.specs.Newest.{newest}
+use Rattle.solutions.specs.declared.needed.Cause.{Cause}
+use Rattle.solutions.specs.declared.reason.Reason.{Reason}
+use Rattle.picking.specs.Answers.{PicksCaused}
+use Rattle.picking.specs.declared.finding.Answer.{Answer}
+use Rattle.picking.specs.declared.finding.Answer.TheVariants as Search
+use Rattle.picking.specs.declared.finding.Choice.{Choice}
+use Rattle.example_index.specs.Listed.{AreRead, IsIndex}
+use Rattle.example_index.specs.declared.fault.IndexFault.{IndexFault}
+use Rattle.example_index.specs.declared.fault.IndexFault.TheVariants as Fault
+use Rattle.example_index.specs.declared.index.SmallIndex.{SmallIndex}
+use Rattle.example_answers.specs.Answers.{IsPicked, IsRefuted, best_line, header}
+use Rattle.example_answers.specs.Explained.{ExplainsAnswer, ExplainsIndex, ExplainsOf, ExplainsSolution}
+use Rattle.example_answers.specs.Explained.{ReportsNoSolution, lines_of_causes, text_of_pick}
+use Rattle.example_answers.specs.Faults.{IsFault, SaysFault}
+use Rattle.example_answers.specs.declared.outcome.Outcome.{Outcome}
+use Rattle.example_answers.specs.declared.outcome.Outcome.TheVariants.{Picked, NoSolution, GaveUp, Unreadable, Failed}
+use Rattle.example_answers.proofs.AnswerLemmas.{in_turn}
+use Rattle.example_answers.proofs.IndexLemmas.{IsSaid, of_fault}
+
+-- a text that goes on with the lines of what is picked is whole if nothing is left
+pub whole_without_more : {S : Type 0} (text : S → Cause → List ℕ) (causes : List Cause) (others : List S)
+    (written whole : List ℕ) → length others < 1 → written ++ lines_of_causes text causes others ≡ whole
+    → written ≡ whole
+whole_without_more text [] others written whole none is = sym (append-nil written) ∙ is
+whole_without_more text (cause ∷ causes) [] written whole none is = sym (append-nil written) ∙ is
+whole_without_more text (cause ∷ causes) (s ∷ rest) written whole none is = absurd (omega arith)
+
+-- the causes are so
+pub caused_are : {N S A : Type 0} (p : Provider N S) (requested : List ConditionalRequirement) (answer : Answer N S A)
+    (choice : Choice S A) → answer ≡ Search.Picked choice → PicksCaused p requested (newest p requested) answer
+    → AreCaused p requested (newest p requested) choice.solvables.items choice.causes.items
+caused_are p requested answer choice is caused =
+    subst (λ a. PicksCaused p requested (newest p requested) a) is caused
+
+-- the text of what is picked, and of the causes
+pub explains_solution : {N S : Type 0} (p : Provider N S) (texts : Texts N S)
+    (requested : List ConditionalRequirement) (picked shown : List S) (causes told : List Cause) (best_up_to wishes : ℕ)
+    (text-0 text-1 text-2 text-3 : List ℕ)
+    → IsPicked p requested picked best_up_to → AreCaused p requested (newest p requested) picked causes
+    → wishes ≡ length (newest p requested) → shown ≡ picked → told ≡ causes
+    → text-0 ≡ [] → text-1 ≡ text-0 ++ header
+    → text-2 ≡ text-1 ++ lines_of_causes (text_of_pick p.universe texts requested shown) told shown
+    → text-3 ≡ text-2 ++ best_line best_up_to wishes → ExplainsSolution p texts requested text-3
+explains_solution p texts requested picked shown causes told best_up_to wishes text-0 text-1 text-2 text-3 is_picked
+    caused all same same_causes none first second third =
+    record {
+      picked = picked;
+      causes = causes;
+      best_up_to = best_up_to;
+      is_picked = is_picked;
+      are_causes = caused;
+      is = in_turn header (lines_of_causes (text_of_pick p.universe texts requested picked) causes picked)
+          (best_line best_up_to (length (newest p requested))) text-0 text-1 text-2 text-3 none first
+          (second
+          ∙ ap (λ s. text-1 ++ lines_of_causes (text_of_pick p.universe texts requested s) told s) same
+          ∙ ap (λ c. text-1 ++ lines_of_causes (text_of_pick p.universe texts requested picked) c picked) same_causes)
+          (third ∙ ap (λ n. text-2 ++ best_line best_up_to n) all);
+    }
+
+-- the text of a report
+pub reports_none : {N S : Type 0} (A : Type 0) (p : Provider N S) (texts : Texts N S)
+    (requested : List ConditionalRequirement) (reasons shown : List (Reason N S)) (report text-0 text-1 text-2 text-3 :
+    List ℕ) → IsRefuted p requested reasons → shown ≡ reasons
+    → IsReport A p.universe texts p.same_name p.same_solvable p.answers shown report
+    → text-0 ≡ [] → text-1 ≡ text-0 ++ header → text-2 ≡ text-1 ++ codes "none\n" → text-3 ≡ text-2 ++ report
+    → ReportsNoSolution A p texts requested text-3
+reports_none A p texts requested reasons shown report text-0 text-1 text-2 text-3 is_refuted same is_report none first
+    second third =
+    record {
+      reasons = reasons;
+      report = report;
+      is_refuted = is_refuted;
+      is_report =
+          subst (λ r. IsReport A p.universe texts p.same_name p.same_solvable p.answers r report) same is_report;
+      is = in_turn header (codes "none\n") report text-0 text-1 text-2 text-3 none first second third;
+    }
+
+module _ {N S : Type 0} (functions : SmallIndex → Provider N S) (texts : SmallIndex → Texts N S) where
+  -- what a search answers to an index
+  pub index_explained : (index : SmallIndex) (outcome : Outcome) (text : List ℕ)
+      → ExplainsAnswer Global (functions index) (texts index) index.request.items outcome text
+      → ExplainsIndex functions texts index outcome text
+  index_explained index Picked text says meant is =
+      record { meant = meant; index = index; says_index = refl; is_index = is; says = says }
+  index_explained index NoSolution text says meant is =
+      record { meant = meant; index = index; says_index = refl; is_index = is; says = says }
+  index_explained index GaveUp text says meant is =
+      inr (record { meant = meant; index = index; says_index = refl; is_index = is; says = says })
+  index_explained index Unreadable text says meant is = absurd says
+  index_explained index Failed text says meant is = absurd says
+
+  -- what answers an index that was read answers what is said
+  pub explained_of_read : (said : Result IndexText ℕ) (index : SmallIndex) (outcome : Outcome) (text : List ℕ)
+      → AreRead IsSaid said (Ok index) → ExplainsIndex functions texts index outcome text
+      → ExplainsOf functions texts said outcome text
+  explained_of_read (Ok meant) index outcome text read says = says meant read
+  explained_of_read (Err number) index outcome text read says = absurd read
+
+  -- what a fault says answers what has it
+  pub explained_of_fault : (said : Result IndexText ℕ) (fault : IndexFault) (outcome : Outcome) (text : List ℕ)
+      → IsFault said fault → SaysFault fault outcome text → ExplainsOf functions texts said outcome text
+  explained_of_fault said fault GaveUp text is says = of_fault functions texts said fault GaveUp text is says
+  explained_of_fault said fault Unreadable text is says = of_fault functions texts said fault Unreadable text is says
+  explained_of_fault said (Fault.Unreadable n) Picked text is says = absurd says
+  explained_of_fault said (Fault.Unreadable n) NoSolution text is says = absurd says
+  explained_of_fault said (Fault.Unreadable n) Failed text is says = absurd says
+  explained_of_fault said (Fault.Refused refused) Picked text is says = absurd says
+  explained_of_fault said (Fault.Refused refused) NoSolution text is says = absurd says
+  explained_of_fault said (Fault.Refused refused) Failed text is says = absurd says
