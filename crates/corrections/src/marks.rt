@@ -62,7 +62,7 @@ pub(crate) fn find_apart<'s, A: Allocator>(
     None
 }
 
-/// Whether each of the sets has at least so many places.
+/// Whether each of the sets has at least `least` places.
 pub(crate) fn are_as_large<A: Allocator>(sets: &[Vec<bool, A>], least: usize) -> bool
     ensures { result ≡ true → All (λ set. least ≤ size set.items) sets.now }
 {

@@ -72,7 +72,7 @@ explains_solution p texts requested picked shown causes told best_up_to wishes t
 pub reports_none : {N S : Type 0} (A : Type 0) (p : Provider N S) (texts : Texts N S)
     (requested : List ConditionalRequirement) (reasons shown : List (Reason N S)) (report text-0 text-1 text-2 text-3 :
     List ℕ) → IsRefuted p requested reasons → shown ≡ reasons
-    → IsReport A p.universe texts p.same_name p.same_solvable p.answers shown report
+    → IsReport A p.universe texts p.same_name p.same_solvable p.answers [] shown report
     → text-0 ≡ [] → text-1 ≡ text-0 ++ header → text-2 ≡ text-1 ++ codes "none\n" → text-3 ≡ text-2 ++ report
     → ReportsNoSolution A p texts requested text-3
 reports_none A p texts requested reasons shown report text-0 text-1 text-2 text-3 is_refuted same is_report none first
@@ -82,7 +82,7 @@ reports_none A p texts requested reasons shown report text-0 text-1 text-2 text-
       report = report;
       is_refuted = is_refuted;
       is_report =
-          subst (λ r. IsReport A p.universe texts p.same_name p.same_solvable p.answers r report) same is_report;
+          subst (λ r. IsReport A p.universe texts p.same_name p.same_solvable p.answers [] r report) same is_report;
       is = in_turn header (codes "none\n") report text-0 text-1 text-2 text-3 none first second third;
     }
 

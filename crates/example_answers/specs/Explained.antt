@@ -66,7 +66,7 @@ pub record ReportsNoSolution {N S : Type 0} (A : Type 0) (p : Provider N S) (tex
   pub reasons : List (Reason N S)
   pub report : List ℕ
   pub is_refuted : IsRefuted p requested reasons
-  pub is_report : IsReport A p.universe texts p.same_name p.same_solvable p.answers reasons report
+  pub is_report : IsReport A p.universe texts p.same_name p.same_solvable p.answers [] reasons report
   pub is : text ≡ header ++ (codes "none\n" ++ report)
 
 -- what each outcome of a search says of the text

@@ -8,7 +8,7 @@ use Rattle.reports.specs.Nearest.{first_at, nearest_within}
 use Rattle.reports.specs.declared.nearest_name.MeasuredName.{MeasuredName}
 
 module _ {N S : Type 0} (answers : Answers N S) (names : List (MeasuredName N)) where
-  -- what so many edits make is the nearest one, if fewer make none
+  -- what one edit more than `fewer` makes is the nearest one, if `fewer` edits make none
   found_within : (count fewer : ℕ) (name : N) → fewer < count → nearest_within answers names fewer ≡ None
       → first_at answers names (suc fewer) ≡ Some name → nearest_within answers names count ≡ Some name
   found_within zero fewer name below none first = absurd (omega arith)

@@ -36,13 +36,13 @@ module _ {N S : Type 0} (answers : Answers N S) where
   abbrev pub has_versions : N → Bool
   has_versions name = not (length (answers.candidates name) == 0)
 
-  -- the first of the names of packages with versions that so many edits make
+  -- the first of the names of packages with versions that are made by `count` edits
   abbrev pub first_at : List (MeasuredName N) → ℕ → Option N
   first_at [] count = None
   first_at (name ∷ names) count =
       if (name.edits == count) && has_versions name.name then Some name.name else first_at names count
 
-  -- the first that the fewest edits make, from one to so many
+  -- the first that the fewest edits make: at least one, and at most `count`
   abbrev pub nearest_within : List (MeasuredName N) → ℕ → Option N
   nearest_within names zero = None
   nearest_within names (suc count) = option_or (nearest_within names count) (first_at names (suc count))

@@ -37,7 +37,7 @@ are_of same universe (Some name) (version ∷ versions) =
 abbrev pub says_of : {N S A : Type 0} → (N → N → Bool) → Universe N S → Option N → Line N S A → Bool
 says_of same universe name line = are_of same universe name line.versions.items
 
--- how many further links of a chain fit into a line of text, if so many lines come behind the first one
+-- how many further links of a chain fit into a line of text, if `count` lines come behind the first one
 abbrev pub room_of : ℕ → ℕ
 room_of count = if nat_le 20 count then 2 else 0
 

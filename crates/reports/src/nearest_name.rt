@@ -84,7 +84,7 @@ fn nearest_within<P: DependencyProvider>(
     Ok(None)
 }
 
-/// The first of the names that so many edits make.
+/// The first of the names that this number of edits makes.
 fn first_at<P: DependencyProvider>(
     alloc: P::Alloc,
     provider: &P,

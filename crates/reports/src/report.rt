@@ -101,7 +101,7 @@ fn write_others<P: DependencyProvider>(
     Ok(text.push_str("\n")?)
 }
 
-/// How many further links of a chain fit into a line of text, if so many lines come behind the first one.
+/// How many further links of a chain fit into a line of text, if this many lines come behind the first one.
 fn room_of(count: usize) -> usize
     ensures { result ≡ room_of count }
 {
