@@ -2,7 +2,7 @@
 ghost use Rattle.std.specs.Prelude.{◌≡◌, option_map};
 ghost use Rattle.debian_installable.specs.Installable.{architecture_of, have_one_architecture, have_one_name};
 ghost use Rattle.debian_installable.specs.Installable.{is_allowed, is_concerned, is_foreign, is_in_order, is_meant};
-ghost use Rattle.debian_installable.specs.Installable.{is_provided, is_same, means, meets, serves};
+ghost use Rattle.debian_installable.specs.Installable.{is_provided, is_same, means, meets, serves, serves_architecture};
 ghost use Rattle.debian_scenario.specs.Plain.{plain_package};
 ghost use Rattle.debian_text.specs.Plain.{plain_bound, plain_relation};
 
