@@ -1,0 +1,14 @@
+use Rattle.std.proofs.Common.{map, rules, tests, ◌∙◌, sym}
+use Rattle.std.proofs.lemmas.Iterator.{YieldsList-from_slice}
+use Rattle.std.proofs.lemmas.Iterator.Search.{all_from_yields_List}
+use Rattle.std.proofs.lemmas.List.Folds.{list_all-map}
+use Rattle.debian_scenario.specs.Plain.{plain_package, plain_request}
+use Rattle.debian_directory.specs.Answers.{may_be_picked}
+use Rattle.debian_directory.proofs.answer.may_all_be_picked.Goals as goal
+
+pub returns : goal.returns
+returns c =
+    let rule = c.args.rules.now in
+    let test = may_be_picked (plain_request rule.request.now) (map plain_package rule.packages.now) in
+    all_from_yields_List (λ q. test (plain_package q)) _ _ c.all.result c.all.ensures.ran (YieldsList-from_slice c.args.packages.now cc) (λ x b q k. search (rules, tests))
+    ∙ sym (list_all-map test plain_package c.args.packages.now)

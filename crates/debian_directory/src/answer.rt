@@ -1,0 +1,67 @@
+//! Whether packages are an answer to a request.
+ghost use Rattle.std.specs.Prelude.{◌≡◌, ◌||◌, not, map, IfOk};
+ghost use Rattle.std.specs.List.{list_all};
+ghost use Rattle.debian_scenario.specs.Plain.{plain_package, plain_request};
+ghost use Rattle.debian_directory.specs.Answers.{has, is_answer, may_all_be_picked, stay, stays};
+ghost use Rattle.debian_directory.specs.Plain.{plain_name};
+
+use crate::name::Name;
+use crate::rules::Rules;
+use crate::together::Together;
+use crate::words::names_of;
+use debian_scenario::Package;
+use std::alloc::{AllocError, Global};
+
+/// Whether these packages may be there together, may each be picked, and are what is asked for.
+pub fn is_answer<'t>(
+    alloc: Global,
+    rules: &Rules<'_, 't>,
+    packages: &[Package<'t>],
+) -> Result<bool, AllocError>
+    ensures { IfOk result (λ yes. yes ≡ is_answer (plain_request rules.now.request.now)
+        (map plain_package rules.now.packages.now) (map plain_package packages.now)) }
+{
+    let native = rules.request.architecture;
+    let together = Together::new(alloc, native, packages)?;
+    let asked = names_of(alloc, native, rules.request.install)?;
+    Ok(
+        together.is_installable()
+            && may_all_be_picked(rules, packages)
+            && are_there(&together, &asked)
+            && stay(rules, &together),
+    )
+}
+
+/// Whether each of these packages may be picked.
+fn may_all_be_picked<'t>(rules: &Rules<'_, 't>, packages: &[Package<'t>]) -> bool
+    ensures { result ≡ may_all_be_picked (plain_request rules.now.request.now)
+        (map plain_package rules.now.packages.now) (map plain_package packages.now) }
+{
+    packages.iter().all(|one| rules.may_be_picked(one))
+}
+
+/// Whether a version of each of these names is there.
+fn are_there<'t>(together: &Together<'_, 't>, names: &[Name<'t>]) -> bool
+    ensures { result ≡ list_all (has together.now.native.now (map plain_package together.now.packages.now))
+        (map plain_name names.now) }
+{
+    names.iter().all(|name| together.has(*name))
+}
+
+/// Whether of each package that has to stay a version is there.
+fn stay<'t>(rules: &Rules<'_, 't>, together: &Together<'_, 't>) -> bool
+    requires { together.now.native.now ≡ rules.now.request.now.architecture.now }
+    ensures { result ≡ stay (plain_request rules.now.request.now) (map plain_package rules.now.packages.now)
+        (map plain_package together.now.packages.now) }
+{
+    rules.packages.iter().all(|one| stays(rules, together, one))
+}
+
+/// Whether a version of a package's name is there, if it has to stay.
+fn stays<'t>(rules: &Rules<'_, 't>, together: &Together<'_, 't>, one: &Package<'t>) -> bool
+    requires { together.now.native.now ≡ rules.now.request.now.architecture.now }
+    ensures { result ≡ stays (plain_request rules.now.request.now) (map plain_package rules.now.packages.now)
+        (map plain_package together.now.packages.now) (plain_package one.now) }
+{
+    !rules.must_stay(one) || together.has(rules.name_of(one))
+}
