@@ -25,7 +25,8 @@ quotient_tells n p q pos below above = go (nat_lt n p) refl
     go false e = let l : p ≤ n = grind (arith, nat_tests) in let z = above l in grind (arith, nat_tests)
 
 pub past_below : (n b : ℕ) → nat_lt 0 (n / 2 ^ b) ≡ (nat_lt 0 n && nat_lt (2 ^ b - 1) n)
-past_below n b = quotient_tells n (2 ^ b) (n / 2 ^ b) (pow_pos b) div-eq_of_lt (λ l. le-div 1 n (2 ^ b) (pow_pos b) (omega arith))
+past_below n b = quotient_tells n (2 ^ b) (n / 2 ^ b) (pow_pos b) div-eq_of_lt
+    (λ l. le-div 1 n (2 ^ b) (pow_pos b) (omega arith))
 
 pub past_above : (n b : ℕ) → n < 2 ^ 64 → 64 ≤ b → (nat_lt 0 n && nat_lt (2 ^ b - 1) n) ≡ false
 past_above n b fits above = let m : 2 ^ 64 ≤ 2 ^ b = pow_mono above in small n (2 ^ b) (omega arith)
@@ -39,16 +40,19 @@ enumerated_more : {V A : Type 0} (f : ℕ × V → A) (k : ℕ) (xs : List V) (y
 enumerated_more f k [] y = let e : k ≡ k + 0 = omega arith in ap (λ n. f (n, y) ∷ []) e
 enumerated_more f k (x ∷ xs) y =
     let e : (k + 1) + length xs ≡ k + suc (length xs) = omega arith in
-    ap (λ zs. f (k, x) ∷ zs) (enumerated_more f (k + 1) xs y ∙ ap (λ n. map f (enumerate_from (k + 1) xs) ++ f (n, y) ∷ []) e)
+    ap (λ zs. f (k, x) ∷ zs) (enumerated_more f (k + 1) xs y
+    ∙ ap (λ n. map f (enumerate_from (k + 1) xs) ++ f (n, y) ∷ []) e)
 
 -- the same, counted from 0
 pub made_more : {V A : Type 0} (f : ℕ × V → A) (xs : List V) (y : V) →
     map f (enumerate_from 0 (xs ++ y ∷ [])) ≡ map f (enumerate_from 0 xs) ++ f (length xs, y) ∷ []
-made_more f xs y = let e : 0 + length xs ≡ length xs = omega arith in enumerated_more f 0 xs y ∙ ap (λ n. map f (enumerate_from 0 xs) ++ f (n, y) ∷ []) e
+made_more f xs y = let e : 0 + length xs ≡ length xs = omega arith in
+    enumerated_more f 0 xs y ∙ ap (λ n. map f (enumerate_from 0 xs) ++ f (n, y) ∷ []) e
 
 -- the loop over a list's members goes on by what it makes of the next one
 pub goes_on : {V A : Type 0} (f : ℕ × V → A) (before items items' : List A) (xs : List V) (n : ℕ) (x : V) (a : A) →
-    n < length xs → x ≡ get_or xs n x → items ≡ before ++ map f (enumerate_from 0 (take n xs)) → items' ≡ items ++ a ∷ [] → a ≡ f (n, x) →
+    n < length xs → x ≡ get_or xs n x → items ≡ before ++ map f (enumerate_from 0 (take n xs)) →
+    items' ≡ items ++ a ∷ [] → a ≡ f (n, x) →
     items' ≡ before ++ map f (enumerate_from 0 (take (n + 1) xs))
 goes_on {V} f before items items' xs n x a within read made pushed next =
     pushed ∙ (ap (λ ys. ys ++ a ∷ []) made ∙
@@ -78,13 +82,17 @@ module _ {V : Type 0} (t : Tracker V) (h v : V) where
 
   joined : (before : List (BitClause V)) → ((before ++ given) ++ own) ++ last ≡ before ++ new_clauses t (Some h) v
   joined before = append_assoc (before ++ given) own last ∙ (append_assoc before given (own ++ last)
-      ∙ ap (λ xs. before ++ (given ++ xs)) (sym (made_more (λ (x : ℕ × V). (v, x.1, has_bit (length t.variables) x.0)) t.helpers h)))
+      ∙ ap (λ xs. before ++ (given ++ xs))
+      (sym (made_more (λ (x : ℕ × V). (v, x.1, has_bit (length t.variables) x.0)) t.helpers h)))
 
   -- the clauses of a variable that comes with a helper, as they are appended: the helper's, those with the helpers
   -- before, and the one with the new helper
-  pub given_appended : (before reserved items items' items'' : List (BitClause V)) (variables helpers : List V) (number bits : ℕ) (b : Bool) →
-      reserved ≡ before → variables ≡ t.variables → helpers ≡ t.helpers → b ≡ has_bit number bits → number ≡ length t.variables → bits ≡ length t.helpers →
-      items ≡ reserved ++ helper_clauses bits h variables → items' ≡ items ++ variable_clauses number v helpers → items'' ≡ items' ++ (v, h, b) ∷ [] →
+  pub given_appended : (before reserved items items' items'' : List (BitClause V)) (variables helpers : List V)
+      (number bits : ℕ) (b : Bool) →
+      reserved ≡ before → variables ≡ t.variables → helpers ≡ t.helpers → b ≡ has_bit number bits →
+      number ≡ length t.variables → bits ≡ length t.helpers →
+      items ≡ reserved ++ helper_clauses bits h variables → items' ≡ items ++ variable_clauses number v helpers →
+      items'' ≡ items' ++ (v, h, b) ∷ [] →
       items'' ≡ before ++ new_clauses t (Some h) v
   given_appended before reserved items items' items'' variables helpers number bits b of_reserved of_variables
       of_helpers of_bit of_number of_bits first second third =

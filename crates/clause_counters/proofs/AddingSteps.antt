@@ -207,7 +207,8 @@ module _ (ms : List Link) (gs : List Group) (mb : IsMember ms gs) (i : ℕ) (l :
     within = within_pushed is_false_group clauses_in no_group ms mb.linked gs mb.within i l clause group_row refl;
   }
 
-  pub member_lists : (k h : ℕ) → count h (numbers_at (with_member ms gs i clause) (group_at (joined_at ms gs i) k).clauses)
+  pub member_lists : (k h : ℕ) → count h (numbers_at (with_member ms gs i clause)
+      (group_at (joined_at ms gs i) k).clauses)
       ≡ count h (numbers_at ms (group_at gs k).clauses) + cond (eqb i k) (cond (eqb clause h) 1 0) 0
   member_lists = lists_pushed is_false_group clauses_in no_group ms mb.linked gs mb.within i l clause group_row refl
 

@@ -22,7 +22,8 @@ pub first_kept : (m : Bool) (cs : List Clause) (c d : ℕ) → (heap_clause (wit
 first_kept m cs c d = field_kept (λ (x : Clause). x.first_of_parent) cs no_heap_clause
     (record (heap_clause cs c) { is_in_heap = m }) c d refl
 
-pub left_kept : (m : Bool) (cs : List Clause) (c d : ℕ) → (heap_clause (with_mark m c cs) d).left ≡ (heap_clause cs d).left
+pub left_kept : (m : Bool) (cs : List Clause) (c d : ℕ) →
+    (heap_clause (with_mark m c cs) d).left ≡ (heap_clause cs d).left
 left_kept m cs c d = field_kept (λ (x : Clause). x.left) cs no_heap_clause
     (record (heap_clause cs c) { is_in_heap = m }) c d refl
 

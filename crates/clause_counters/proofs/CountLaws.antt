@@ -74,7 +74,8 @@ known_first links k list n some known = elim (cases_lt (link_at links (list - 1)
 -- what a group's clauses have of it is among what they have
 pub of_group : (members : List Link) (groups : List Group) (g c : ℕ) → g < length groups
     → count c (numbers_at members (group_at groups g).clauses) ≤ all_members members groups c
-of_group members groups g c l = get_or-le-sum_by (λ (x : Group). count c (numbers_at members x.clauses)) groups g no_group l
+of_group members groups g c l =
+    get_or-le-sum_by (λ (x : Group). count c (numbers_at members x.clauses)) groups g no_group l
 
 pub of_open_group : (members : List Link) (groups : List Group) (g c : ℕ) → g < length groups
     → ((group_at groups g).left ≡ 0 → ⊥)
@@ -89,7 +90,8 @@ pub closed_group : (members : List Link) (groups : List Group) (g c : ℕ) → g
     → open_members members groups c + count c (numbers_at members (group_at groups g).clauses)
     ≤ all_members members groups c
 closed_group members groups g c l none =
-    closed_part (λ (x : Group). eqb x.left 0) (λ (x : Group). count c (numbers_at members x.clauses)) no_group groups g l
+    closed_part (λ (x : Group). eqb x.left 0) (λ (x : Group). count c (numbers_at members x.clauses)) no_group groups
+    g l
     (eq-eqb (group_at groups g).left 0 none)
 
 -- a number that is told changes no list

@@ -25,7 +25,8 @@ places_at places ls i g = count g (numbers_at places (standing_at ls i).groups)
 -- a literal's places are among all, and among those that aren't false if it isn't
 pub of_literal : (places : List Link) (ls : List Standing) (i g : ℕ) → i < length ls
     → places_at places ls i g ≤ all_places places ls g
-of_literal places ls i g l = get_or-le-sum_by (λ (x : Standing). count g (numbers_at places x.groups)) ls i no_standing l
+of_literal places ls i g l = get_or-le-sum_by (λ (x : Standing). count g (numbers_at places x.groups)) ls i
+    no_standing l
 
 pub of_open_literal : (places : List Link) (ls : List Standing) (i g : ℕ) → i < length ls
     → (standing_at ls i).is_false ≡ false

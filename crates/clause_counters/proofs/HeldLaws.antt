@@ -115,7 +115,8 @@ pub held_removed : (cs : List Clause) (es es' : List (Reverse Position)) (room :
 held_removed cs es es' room p c h moved keeps = record {
   heap = keeps h.heap;
   once = λ d. (elim (cases_eq d c) [
-    | inl e ↦ subst (λ y. count_by (is_of y) es' ≡ cond (heap_clause (with_mark false c cs) y).is_in_heap 1 0) (sym e) here
+    | inl e ↦ subst (λ y. count_by (is_of y) es' ≡ cond (heap_clause (with_mark false c cs) y).is_in_heap 1 0)
+        (sym e) here
     | inr ne ↦ there d ne
   ]);
   placed = All-weaker (HasFirst cs)
@@ -178,7 +179,8 @@ held_pushed cs es room more x h plain fits few = record {
   once = λ d. h.once d ∙ sym (ap (λ b. cond b 1 0) (mark_pushed cs x d plain));
   placed = λ k d l. All-get_or (HasFirst cs) es k d l
       h.placed
-      ∙ sym (ap (λ (y : Clause). y.first_of_parent) (get_or_append_left cs (x ∷ []) no_heap_clause (get_or es k d).0.number
+      ∙ sym (ap (λ (y : Clause). y.first_of_parent) (get_or_append_left cs (x ∷ []) no_heap_clause
+      (get_or es k d).0.number
       (entries_within cs es room h k d l)));
   counted = (let there = sum_by_push (λ (y : Clause). cond y.is_in_heap 1 0) cs x in
       let none : ◌≡◌ {A = ℕ} (cond x.is_in_heap 1 0) 0 = ap (λ b. cond b 1 0) plain in

@@ -72,7 +72,8 @@ module _ {R : Type 0} (closed : R → Bool) (list : R → ℕ) (nothing : R) (li
       ≡ count n (numbers_at links (list (get_or rows k nothing)))
   other_list k n = ap (count n) (listed_kept links linked link_before (list (get_or rows k nothing)) (within k))
 
-  pub lists_pushed : (k n : ℕ) → count n (numbers_at (links ++ link_before ∷ []) (list (get_or (set rows i row) k nothing)))
+  pub lists_pushed : (k n : ℕ) → count n (numbers_at (links ++ link_before ∷ [])
+      (list (get_or (set rows i row) k nothing)))
       ≡ count n (numbers_at links (list (get_or rows k nothing))) + cond (eqb i k) (cond (eqb value n) 1 0) 0
   lists_pushed k n = elim (cases_eq k i) [
     | inl e ↦ subst (λ x. count n (numbers_at (links ++ link_before ∷ []) (list (get_or (set rows i row) x nothing)))

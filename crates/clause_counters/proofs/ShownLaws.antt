@@ -240,7 +240,8 @@ shows_told v s l b is_false says shows = record {
 }
 
 -- what is shown doesn't depend on the room
-pub shows_room : (old new : CounterState) (s : GroupedClauses) → IsSameButRoom old new → Represents old s → Represents new s
+pub shows_room : (old new : CounterState) (s : GroupedClauses) → IsSameButRoom old new → Represents old s →
+    Represents new s
 shows_room old new s same shows = subst (λ v. Represents v s) (sym same) (record {
   size = shows.size;
   firsts = shows.firsts;
@@ -261,7 +262,8 @@ shows_again places ls members members' groups firsts firsts' has_room has_room' 
     (counters_in places ls members groups firsts has_room') s refl shows))
 
 -- a function that says the same of each literal is shown too: so the callers' may be that of a trail's values
-pub shows_same : (v : CounterState) (s : GroupedClauses) (is_false : Lit → Bool) → ((l : Lit) → s.is_false l ≡ is_false l) → Represents v s
+pub shows_same : (v : CounterState) (s : GroupedClauses) (is_false : Lit → Bool) →
+    ((l : Lit) → s.is_false l ≡ is_false l) → Represents v s
     → Represents v (record s { is_false = is_false })
 shows_same v s is_false same shows = record {
   size = shows.size;

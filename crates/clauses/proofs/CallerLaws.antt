@@ -1,5 +1,6 @@
 -- A clause's first watches are two different ones of its literals, or none.
-use Rattle.std.proofs.Common.{◌≡◌, Bool, true, false, cond, not, List, [], ◌∷◌, length, Option, None, Some, refl, ap, subst}
+use Rattle.std.proofs.Common.{◌≡◌, Bool, true, false, cond, not, List, [], ◌∷◌, length, Option, None, Some, refl, ap}
+use Rattle.std.proofs.Common.{subst}
 use Rattle.std.specs.Prelude.{◌≢◌, Contains, find, slice_get, unwrap_or}
 use Rattle.std.proofs.lemmas.Bool.{eqb-false}
 use Rattle.std.proofs.lemmas.List.Elements.{Contains-push, Contains-append_left, Contains-append_right}
@@ -8,7 +9,8 @@ use Rattle.decisions.specs.Literals.{Lit, Pos, Neg, Values, variable_of, is_fals
 use Rattle.clauses.specs.declared.clause.Clause.TheVariants.{InstallRoot, Requires, ForbidMultipleInstances}
 use Rattle.clauses.specs.declared.clause.Clause.TheVariants.{Constrains, ConstrainsExcluded}
 use Rattle.clauses.specs.declared.clause.Clause.TheVariants.{ConstrainsParent, Lock, Learnt, Excluded, AnyOf}
-use Rattle.clauses.specs.Clauses.{other_literals, learnt_literals, same_literal, watch_pair, watch_beside, watch_ends, first_not_false}
+use Rattle.clauses.specs.Clauses.{other_literals, learnt_literals, same_literal, watch_pair, watch_beside, watch_ends}
+use Rattle.clauses.specs.Clauses.{first_not_false}
 use Rattle.clauses.specs.Laws.{AreTwoOf, FirstWatchesAreTwo}
 
 module _ {X : Type 0} where
@@ -48,9 +50,11 @@ beside-two ls l (Some m) h k = pair-two ls l m h (k m refl)
 chosen-in : (now : Values) (ls : List Lit) (m : Lit) → first_not_false now ls ≡ Some m → Contains ls m
 chosen-in now [] m e = absurd (none-some m e)
 chosen-in now (l ∷ ls) m e = by_found (find (λ x. not (is_false_literal now x)) (l ∷ ls)) refl e where
-  by_found : (o : Option Lit) → find (λ x. not (is_false_literal now x)) (l ∷ ls) ≡ o → Some (unwrap_or o l) ≡ Some m → Contains (l ∷ ls) m
+  by_found : (o : Option Lit) → find (λ x. not (is_false_literal now x)) (l ∷ ls) ≡ o →
+      Some (unwrap_or o l) ≡ Some m → Contains (l ∷ ls) m
   by_found None f h = subst (λ z. Contains (l ∷ ls) z) (same_Some l m h) (has-first l ls)
-  by_found (Some y) f h = subst (λ z. Contains (l ∷ ls) z) (same_Some y m h) (found-in (λ x. not (is_false_literal now x)) (l ∷ ls) y f)
+  by_found (Some y) f h = subst (λ z. Contains (l ∷ ls) z) (same_Some y m h)
+      (found-in (λ x. not (is_false_literal now x)) (l ∷ ls) y f)
 
 ends-two : (ls : List Lit) → AreTwoOf ls (watch_ends ls)
 ends-two [] = tt
@@ -71,7 +75,8 @@ first_watches_are_two N k now (Constrains a b v) = both-two (Neg a) (Neg b)
 first_watches_are_two N k now (ConstrainsExcluded a aux v) = both-two (Neg a) (Pos aux)
 first_watches_are_two N k now (ConstrainsParent a aux v) = both-two (Neg a) (Neg aux)
 first_watches_are_two N k now (Lock locked other) =
-    pair-two (Neg other ∷ Neg 0 ∷ []) (Neg 0) (Neg other) (has-more (Neg other) (Neg 0 ∷ []) (Neg 0) (has-first (Neg 0) []))
+    pair-two (Neg other ∷ Neg 0 ∷ []) (Neg 0) (Neg other) (has-more (Neg other) (Neg 0 ∷ []) (Neg 0)
+    (has-first (Neg 0) []))
     (has-first (Neg other) (Neg 0 ∷ []))
 first_watches_are_two N k now (Learnt id) = ends-two (learnt_literals k id)
 first_watches_are_two N k now (Excluded a reason) = tt

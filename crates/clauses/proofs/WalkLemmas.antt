@@ -1,5 +1,6 @@
 -- Walks over literals: what one list gives, and lists one after another.
-use Rattle.std.proofs.Common.{◌≡◌, ℕ, Bool, true, false, List, [], ◌∷◌, ◌++◌, map, Option, Some, None, inl, inr, refl, sym, ap, ◌∙◌, subst, cond}
+use Rattle.std.proofs.Common.{◌≡◌, ℕ, Bool, true, false, List, [], ◌∷◌, ◌++◌, map, Option, Some, None, inl, inr, refl}
+use Rattle.std.proofs.Common.{sym, ap, ◌∙◌, subst, cond}
 use Rattle.std.specs.Prelude.{find, flat_map}
 use Rattle.decisions.specs.Literals.{Lit, Pos}
 use Rattle.clauses.specs.Walks.{IsFirstTrue}
@@ -12,7 +13,8 @@ module _ {X : Type 0} (answers : X → Bool → Type 0) where
   first-front (y ∷ xs) ys x (inr h) = inr (h.0, first-front xs ys x h.1)
 
   -- where nothing passes in the front, the rest decides
-  pub first-rest : (xs ys : List X) (r : Option X) → IsFirstTrue answers xs None → IsFirstTrue answers ys r → IsFirstTrue answers (xs ++ ys) r
+  pub first-rest : (xs ys : List X) (r : Option X) → IsFirstTrue answers xs None → IsFirstTrue answers ys r →
+      IsFirstTrue answers (xs ++ ys) r
   first-rest [] ys r e h = h
   first-rest (y ∷ xs) ys r (inl k) h = absurd (let e = k.1 in cc)
   first-rest (y ∷ xs) ys r (inr k) h = inr (k.0, first-rest xs ys r k.1 h)
@@ -31,15 +33,18 @@ module _ (answers : Lit → Bool → Type 0) where
       → IsFirstTrue answers (map Pos shown) (Some x) → IsFirstTrue answers (flat_map (map Pos) lists) (Some x)
   found-list lists rest list shown x e s h =
       subst (λ ls. IsFirstTrue answers (flat_map (map Pos) ls) (Some x)) (sym e)
-      (first-front answers (map Pos list) (flat_map (map Pos) rest) x (subst (λ l. IsFirstTrue answers (map Pos l) (Some x)) s h))
+      (first-front answers (map Pos list) (flat_map (map Pos) rest) x
+      (subst (λ l. IsFirstTrue answers (map Pos l) (Some x)) s h))
 
   -- where nothing passes in it, the rest decides
-  pub missed-list : (lists rest : List (List ℕ)) (list shown : List ℕ) (r : Option Lit) → lists ≡ list ∷ rest → shown ≡ list
+  pub missed-list : (lists rest : List (List ℕ)) (list shown : List ℕ) (r : Option Lit) → lists ≡ list ∷ rest →
+      shown ≡ list
       → IsFirstTrue answers (map Pos shown) None → IsFirstTrue answers (flat_map (map Pos) rest) r
       → IsFirstTrue answers (flat_map (map Pos) lists) r
   missed-list lists rest list shown r e s h k =
       subst (λ ls. IsFirstTrue answers (flat_map (map Pos) ls) r) (sym e)
-      (first-rest answers (map Pos list) (flat_map (map Pos) rest) r (subst (λ l. IsFirstTrue answers (map Pos l) None) s h) k)
+      (first-rest answers (map Pos list) (flat_map (map Pos) rest) r
+      (subst (λ l. IsFirstTrue answers (map Pos l) None) s h) k)
 
   -- where no list is left, nothing passes
   pub end-lists : (lists : List (List ℕ)) → lists ≡ [] → IsFirstTrue answers (flat_map (map Pos) lists) None

@@ -102,8 +102,8 @@ fn try_level<D: DependencyProvider>(
         conflicts.old.items }
     ensures found { IfOk result (IfFound (Corrects (⟦<D as ProviderFunctions>⟧.functions provider.now)
         task.now.requested.now)) }
-    ensures smallest { IfOk result (IfFound (λ correction. IsSmallest (⟦<D as ProviderFunctions>⟧.functions provider.now)
-        task.now.requested.now correction.left_out.items)) }
+    ensures smallest { IfOk result (IfFound (λ correction. IsSmallest
+        (⟦<D as ProviderFunctions>⟧.functions provider.now) task.now.requested.now correction.left_out.items)) }
     ensures next { IfOk result (IfNext (IsCover (⟦<D as ProviderFunctions>⟧.functions provider.now)
         task.now.requested.now)) }
     ensures conflicts { OnOk result (AreConflicts (⟦<D as ProviderFunctions>⟧.functions provider.now)

@@ -5,8 +5,8 @@
 //! leaves out one of them. `specs/Corrections` says this in the words of the provider alone, `correcting` has the
 //! search, and `marks` the sets.
 //!
-//! [`write_proposals`] needs no search: it writes the requirements of a request that reasons name (`proposals`). At least
-//! one of them has to be left out, and that may not be enough. `specs/Proposals` says what it promises.
+//! [`write_proposals`] needs no search: it writes the requirements of a request that reasons name (`proposals`). At
+//! least one of them has to be left out, and that may not be enough. `specs/Proposals` says what it promises.
 #![tactic(auto)]
 
 mod correcting;

@@ -15,7 +15,7 @@ use std::alloc::Allocator;
 
 type Done = Result<(), StoreError>;
 
-/// Appends the line `leave out one of: app 1..20, lib 2..3`, with the requirements of the request that the reasons name.
+/// Appends the line `leave out one of: app 1..20, lib 2..3`: the requirements of the request that the reasons name.
 /// If the reasons are true and enough, a request that has all of these has no solution, whatever else it has.
 pub fn write_proposals<D: DependencyProvider>(
     provider: &D,

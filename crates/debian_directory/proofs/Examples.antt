@@ -133,7 +133,8 @@ keeps_what_is_to_go = refl
 abbrev essential : State
 essential = record installed { is_essential = true }
 
-essential_upgraded : is_answer (request actions [] []) (a essential ∷ newer_a candidate ∷ []) (newer_a candidate ∷ []) ≡ true
+essential_upgraded : is_answer (request actions [] []) (a essential ∷ newer_a candidate ∷ [])
+    (newer_a candidate ∷ []) ≡ true
 unfolding keys upstream_len
 essential_upgraded = refl
 

@@ -71,11 +71,13 @@ needs_provided : may (a ∷ native (codes "x") (codes "7") (record nothing { pro
 unfolding keys upstream_len
 needs_provided = refl
 
-needs_version_provided : may (a ∷ native (codes "x") (codes "7") (record nothing { provides = codes "b" }) ∷ d ∷ []) ≡ false
+needs_version_provided : may (a ∷ native (codes "x") (codes "7") (record nothing { provides = codes "b" }) ∷ d ∷ [])
+    ≡ false
 unfolding keys upstream_len
 needs_version_provided = refl
 
-needs_provided_version : may (a ∷ native (codes "x") (codes "7") (record nothing { provides = codes "b (= 2.1)" }) ∷ d ∷ []) ≡ true
+needs_provided_version : may (a ∷ native (codes "x") (codes "7")
+    (record nothing { provides = codes "b (= 2.1)" }) ∷ d ∷ []) ≡ true
 unfolding keys upstream_len
 needs_provided_version = refl
 
@@ -131,11 +133,13 @@ serves_named : may (needing (codes "b:i386") ∷ other No (codes "1") ∷ []) �
 unfolding keys upstream_len
 serves_named = refl
 
-same_twice : may (of_architecture (codes "amd64") Same (codes "b") (codes "1") nothing ∷ other Same (codes "1") ∷ []) ≡ true
+same_twice : may (of_architecture (codes "amd64") Same (codes "b") (codes "1") nothing ∷ other Same (codes "1") ∷ [])
+    ≡ true
 unfolding keys upstream_len
 same_twice = refl
 
-same_in_two_versions : may (of_architecture (codes "amd64") Same (codes "b") (codes "2") nothing ∷ other Same (codes "1") ∷ []) ≡ false
+same_in_two_versions : may (of_architecture (codes "amd64") Same (codes "b") (codes "2") nothing ∷ other Same
+    (codes "1") ∷ []) ≡ false
 unfolding keys upstream_len
 same_in_two_versions = refl
 

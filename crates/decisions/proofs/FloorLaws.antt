@@ -6,7 +6,8 @@ use Rattle.std.specs.List.{AllByRecursion}
 use Rattle.std.proofs.lemmas.List.Elements.{All-from_recursion}
 use Rattle.std.proofs.lemmas.Bool.{cases_lt}
 use Rattle.decisions.specs.Trail.{Entry, Trail, cut_to}
-use Rattle.decisions.specs.Floor.{Change, Push, UndoLast, UndoUntil, Clear, Propagate, changed, after_all, lengths, FloorIsLeast}
+use Rattle.decisions.specs.Floor.{Change, Push, UndoLast, UndoUntil, Clear, Propagate, changed, after_all, lengths}
+use Rattle.decisions.specs.Floor.{FloorIsLeast}
 
 -- the present length is the first
 lengths-first : (t : Trail) (cs : List Change) → slice_get (lengths t cs) 0 ≡ Some (length t.entries)
@@ -50,7 +51,8 @@ lowest_before : (r : ℕ) (t : Trail) (c : Change) (cs : List Change) → t.floo
     → IsLowest r t.floor (length t.entries ∷ lengths (changed t c) cs)
 lowest_before r t c cs h step rest =
     let down : r ≤ t.floor = omega (arith, step.not_above, rest.not_above) in
-    let first : r ≡ length (changed t c).entries → (i : ℕ) × (slice_get (length t.entries ∷ lengths (changed t c) cs) i ≡ Some r) =
+    let first : r ≡ length (changed t c).entries → (i : ℕ)
+    × (slice_get (length t.entries ∷ lengths (changed t c) cs) i ≡ Some r) =
     λ e. (1, lengths-first (changed t c) cs ∙ ap Some (sym e)) in
     record {
       not_above = down;
@@ -62,7 +64,8 @@ lowest_before r t c cs h step rest =
     }
 
 -- after all changes the floor is
-lowest : (t : Trail) (cs : List Change) → t.floor ≤ length t.entries → IsLowest (after_all t cs).floor t.floor (lengths t cs)
+lowest : (t : Trail) (cs : List Change) → t.floor ≤ length t.entries →
+    IsLowest (after_all t cs).floor t.floor (lengths t cs)
 lowest t [] h = record { not_above = omega arith; below = (h, tt); one = inl refl }
 lowest t (c ∷ cs) h =
     let step = floor-changed t c h in

@@ -45,13 +45,15 @@ IsWithin-trail_of decisions ds place floor p f = record {
 -- the clause of the first decision, or of a later one
 clause_by_test : (d : Decision) (b : Bool) (rest : Option ℕ) (found : Option Decision)
     → rest ≡ option_map (λ (d : Decision). d.derived_from) found
-    → (if b then Some d.derived_from else rest) ≡ option_map (λ (d : Decision). d.derived_from) (if b then Some d else found)
+    → (if b then Some d.derived_from else rest) ≡ option_map (λ (d : Decision). d.derived_from)
+    (if b then Some d else found)
 clause_by_test d true rest found h = refl
 clause_by_test d false rest found h = h
 
 -- the clause of a variable is that of the first decision about it
 pub clause_of-entries_of : (decisions : MapItems) (ds : List Decision) (x : ℕ)
-    → clause_of (entries_of decisions ds) x ≡ option_map (λ (d : Decision). d.derived_from) (find (λ d. d.variable == x) ds)
+    → clause_of (entries_of decisions ds) x ≡ option_map (λ (d : Decision). d.derived_from)
+    (find (λ d. d.variable == x) ds)
 clause_of-entries_of decisions [] x = refl
 clause_of-entries_of decisions (d ∷ ds) x = clause_by_test d (d.variable == x) _ _ (clause_of-entries_of decisions ds x)
 
@@ -143,13 +145,15 @@ module _ (old new : MapItems) (ds : List Decision) (d : Decision)
   unchanged = entries_of-update old new d.variable ds reset.1 undecided
 
   -- the trail is what it was, without the newest entry
-  pub entries_of-pop : entries_of new ds ≡ take (length (entries_of old (ds ++ d ∷ [])) - 1) (entries_of old (ds ++ d ∷ []))
+  pub entries_of-pop : entries_of new ds ≡ take (length (entries_of old (ds ++ d ∷ [])) - 1)
+      (entries_of old (ds ++ d ∷ []))
   entries_of-pop = rw (split, take-push (entries_of old ds) (entry old d)) unchanged
 
   -- of entries that stay where they aren't above a level, that one doesn't where it is
   pub entries_until-pop : (l : ℕ) → l < level_in old d.variable
       → entries_until l (entries_of new ds) ≡ entries_until l (entries_of old (ds ++ d ∷ []))
-  entries_until-pop l above = rw (split, unchanged) (sym (entries_until-above l (entries_of old ds) (entry old d) above))
+  entries_until-pop l above = rw (split, unchanged)
+      (sym (entries_until-above l (entries_of old ds) (entry old d) above))
 
   -- the values without it
   values-pop : (x : ℕ) (b : Bool) → (d.variable == x) ≡ b → values_in new x ≡ val (entries_of old ds) x

@@ -1,6 +1,7 @@
 -- What a trail is with an entry added or taken back.
 use Rattle.std.specs.Prelude.{◌≡◌, ◌≢◌, ℕ, ◌<◌, ◌≤◌, ◌-◌, ◌==◌, nat_lt, if◌then◌else◌}
-use Rattle.std.specs.Prelude.{Bool, true, false, refl, List, [], ◌∷◌, ◌++◌, length, take, slice_get, All, Option, Some, None}
+use Rattle.std.specs.Prelude.{Bool, true, false, refl, List, [], ◌∷◌, ◌++◌, length, take, slice_get, All, Option}
+use Rattle.std.specs.Prelude.{Some, None}
 use Rattle.std.proofs.Common.{arith, ap, length-append, get_or, ◌⊎◌, inl, inr}
 use Rattle.std.proofs.Math.Bool.{and-true, and-false}
 use Rattle.std.proofs.Math.Seq.{take-append_seam, get_or-append_seam}
@@ -86,14 +87,16 @@ IsTrail-pop es e trail = record {
 }
 
 -- an entry above the level isn't kept
-pub entries_until-above : (l : ℕ) (es : List Entry) (e : Entry) → l < e.level → entries_until l (es ++ e ∷ []) ≡ entries_until l es
+pub entries_until-above : (l : ℕ) (es : List Entry) (e : Entry) → l < e.level →
+    entries_until l (es ++ e ∷ []) ≡ entries_until l es
 entries_until-above l [] e above = rw (lt-ltb _ _ above) refl
 entries_until-above l (f ∷ es) e above =
     let all = list_all-append (λ x. nat_lt l x.level) es (e ∷ []) in
     rw (all, lt-ltb _ _ above, and-true, entries_until-above l es e above) refl
 
 -- below an entry that isn't above the level each is kept
-pub entries_until-within : (l : ℕ) (es : List Entry) (e : Entry) → e.level ≤ l → entries_until l (es ++ e ∷ []) ≡ es ++ e ∷ []
+pub entries_until-within : (l : ℕ) (es : List Entry) (e : Entry) → e.level ≤ l →
+    entries_until l (es ++ e ∷ []) ≡ es ++ e ∷ []
 entries_until-within l [] e within = rw (le-ltb _ _ within) refl
 entries_until-within l (f ∷ es) e within =
     let all = list_all-append (λ x. nat_lt l x.level) es (e ∷ []) in

@@ -1,5 +1,6 @@
 -- What follows from what a search answers, for an answer with explanations.
-use Rattle.std.proofs.Common.{◌≡◌, ◌<◌, ◌∙◌, ℕ, List, [], ◌∷◌, ◌++◌, Result, Ok, Err, codes, length, append-nil, ap, arith}
+use Rattle.std.proofs.Common.{◌≡◌, ◌<◌, ◌∙◌, ℕ, List, [], ◌∷◌, ◌++◌, Result, Ok, Err, codes, length, append-nil, ap}
+use Rattle.std.proofs.Common.{arith}
 use Rattle.std.proofs.Common.{refl, inl, inr, subst, sym}
 use Rattle.std.specs.declared.alloc.Global.{Global}
 use Rattle.index_text.specs.Index.{IndexText}

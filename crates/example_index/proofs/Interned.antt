@@ -1,5 +1,6 @@
 -- What comes into a pool stands at its id.
-use Rattle.std.proofs.Common.{◌≡◌, ◌∙◌, ℕ, suc, ◌+◌, Bool, true, false, not, ◌||◌, List, [], ◌∷◌, ◌++◌, map, Some, None, length}
+use Rattle.std.proofs.Common.{◌≡◌, ◌∙◌, ℕ, suc, ◌+◌, Bool, true, false, not, ◌||◌, List, [], ◌∷◌, ◌++◌, map, Some}
+use Rattle.std.proofs.Common.{None, length}
 use Rattle.std.proofs.Common.{cond, arith, refl, ap, sym, add_comm, add-one}
 use Rattle.std.specs.Prelude.{nat_lt, option_map, if◌then◌else◌, slice_get, ◌==◌, ◌&&◌, Result, Ok, Err, IfOk, OnOk}
 use Rattle.std.specs.List.{position, position_or_len}

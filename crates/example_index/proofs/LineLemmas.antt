@@ -44,7 +44,8 @@ fault_read IsSo number None K (Err n) (Refused e) h is = tt
 fault_read IsSo number (Some more) K (Err n) (Refused e) h is = tt
 
 -- what lines say from a place on begins with what the line there says
-pub versions_step : (format : VersionFormat) (lines : List Line) (i : ℕ) (line : Line) → i < length lines → line ≡ slice_index_or lines i line
+pub versions_step : (format : VersionFormat) (lines : List Line) (i : ℕ) (line : Line) → i < length lines →
+    line ≡ slice_index_or lines i line
     → (versions : List VersionText) (all : Result (List VersionText) ℕ)
     → versions_of format versions (map plain_line (drop i lines)) ≡ all
     → or_fault line.number (λ more. versions_of format more (map plain_line (drop (i + 1) lines)))
@@ -54,7 +55,8 @@ versions_step format lines i line here is versions all so_far =
     ∙ ap (λ l. versions_of format versions (plain_line l ∷ map plain_line (drop (i + 1) lines))) (sym is)) ∙ so_far
 
 -- a request, and then the versions
-module _ {T : Type 0} (format : VersionFormat) (P : IndexText → T → Type 0) (Q : List VersionText → T → Type 0) (entries : List EntryText)
+module _ {T : Type 0} (format : VersionFormat) (P : IndexText → T → Type 0) (Q : List VersionText → T →
+    Type 0) (entries : List EntryText)
     (each : (versions : List VersionText) (done : T) → Q versions done → P
     (record { format = format; request = entries; versions = versions }) done) where
   pub request_read : (versions : Result (List VersionText) ℕ) (result : Result T IndexFault) → AreRead Q versions result

@@ -12,7 +12,8 @@ use Rattle.decisions.specs.LiteralIndex.{literal_index}
 use Rattle.clauses.specs.Clauses.{same_literal}
 use Rattle.clauses.specs.declared.disjunction.Disjunction.{Disjunction}
 use Rattle.clause_counters.specs.CounterState.{CounterState}
-use Rattle.clause_counters.specs.GroupedClauses.{GroupedClauses, Represents, GroupClause, has_index, with_group, AddsGroup, AddsClause}
+use Rattle.clause_counters.specs.GroupedClauses.{GroupedClauses, Represents, GroupClause, has_index, with_group}
+use Rattle.clause_counters.specs.GroupedClauses.{AddsGroup, AddsClause}
 use Rattle.clause_counters.specs.GroupedClauses as below
 use Rattle.clause_counters.proofs.ShownLaws.{shows_same}
 use Rattle.falsified_clauses.specs.declared.demand.Demand.{Demand}
@@ -119,7 +120,8 @@ module _ {A : Type 0} (kept : KeyedCounters) (v : CounterState) (s : Counted A) 
 -- ---- the literals of a group
 
 -- a group of the same literals
-pub adds_same : {E : Type 0} (old new : CounterState) (is_false : Lit → Bool) (r : Result ℕ E) (ls ms : List Lit) → ls ≡ ms
+pub adds_same : {E : Type 0} (old new : CounterState) (is_false : Lit → Bool) (r : Result ℕ E) (ls ms : List Lit) →
+    ls ≡ ms
     → IfOk r (λ group. AddsGroup old ls is_false group new) → IfOk r (λ group. AddsGroup old ms is_false group new)
 adds_same old new is_false r ls ms same adds =
     subst (λ l. IfOk r (λ group. AddsGroup old l is_false group new)) same adds
@@ -149,7 +151,8 @@ same_index (Pos v) (Neg w) = ne_eqb (2 * w + 1) (2 * v) (omega arith)
 same_index (Neg v) (Pos w) = ne_eqb (2 * w) (2 * v + 1) (omega arith)
 
 module _ {A : Type 0} (keys : List GroupKey) (v : CounterState) (s : Counted A) (l : Lit) where
-  pub shows_false : Represents v (below.with_false l (grouped_by keys s)) → Represents v (grouped_by keys (with_false l s))
+  pub shows_false : Represents v (below.with_false l (grouped_by keys s)) →
+      Represents v (grouped_by keys (with_false l s))
   shows_false shows = shows_same v (below.with_false l (grouped_by keys s)) (with_false l s).is_false
       (λ m. ap (λ b. b || s.is_false m) (same_index l m)) shows
 

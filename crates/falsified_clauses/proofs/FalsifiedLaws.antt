@@ -85,7 +85,8 @@ module _ {A : Type 0} (keys : List GroupKey) (s : Counted A) where
     -- the first that the counters show is the first
     pub first_is : (answer : Option ℕ) → below.IsFirstFalsified (grouped_by keys s) answer → IsFirstFalsified s answer
     first_is answer first =
-        same_first_of (λ c. (grouped_clause (grouped_by keys s) c).first_of_parent) (λ c. (clause_at s c).first_of_parent)
+        same_first_of (λ c. (grouped_clause (grouped_by keys s) c).first_of_parent)
+        (λ c. (clause_at s c).first_of_parent)
         (length (map (group_clause keys) s.clauses)) (length s.clauses)
         (below.is_falsified (grouped_by keys s)) (is_falsified_at s) answer
         (λ c l. ap (λ (x : below.GroupClause). x.first_of_parent) (shown_is c l))

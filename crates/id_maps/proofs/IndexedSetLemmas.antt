@@ -16,7 +16,8 @@ get_word words index = get_or words (index / 64) 0
 -- the test `word & bit == 0`
 pub bit_clear : (word k : ℕ) → k < 64 → eqb (bit_and word (1 * 2 ^ k % 2 ^ 64)) 0 ≡ not (eqb (bit_at word k) 1)
 bit_clear word k h =
-    let masked : bit_and word (1 * 2 ^ k % 2 ^ 64) ≡ bit_at word k * 2 ^ k = ap (bit_and word) (one_shl k 64 h) ∙ and_pow word k in
+    let masked : bit_and word (1 * 2 ^ k % 2 ^ 64) ≡ bit_at word k * 2 ^ k = ap (bit_and word) (one_shl k 64 h)
+    ∙ and_pow word k in
     let bit : ℕ = bit_at word k in
     let small : bit < 2 = omega arith in
     elim (cases_eq bit 1) [
@@ -30,7 +31,8 @@ bit_clear word k h =
 
 -- the words once the bit at the index is set
 pub bit_set : (words : List ℕ) (index word : ℕ) → index / 64 < length words → word ≡ get_or words (index / 64) 0
-    → IsUpdate (has_bit words) index true (has_bit (set words (index / 64) (bit_or word (1 * 2 ^ (index % 64) % 2 ^ 64))))
+    → IsUpdate (has_bit words) index true
+    (has_bit (set words (index / 64) (bit_or word (1 * 2 ^ (index % 64) % 2 ^ 64))))
 bit_set words index word within read =
     let place : ℕ = index / 64 in
     let marked : ℕ = bit_or word (1 * 2 ^ (index % 64) % 2 ^ 64) in
@@ -44,6 +46,7 @@ bit_set words index word within read =
                 ∙ ap (λ x. eqb (bit_at x (other % 64)) 1) (get_or-set_same words place marked 0 within)
                 ∙ ap (λ x. eqb x 1) (bit_at_set_other w64 word (index % 64) low (other % 64) (λ e. apart (omega arith)))
                 ∙ ap (λ x. eqb (bit_at x (other % 64)) 1) (read ∙ ap (λ x. get_or words x 0) (sym row))
-            | inr away ↦ ap (λ x. eqb (bit_at x (other % 64)) 1) (get_or-set_other words place (other / 64) marked 0 away)
+            | inr away ↦ ap (λ x. eqb (bit_at x (other % 64)) 1) (get_or-set_other words place
+                (other / 64) marked 0 away)
           ],
     )

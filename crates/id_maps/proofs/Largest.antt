@@ -57,7 +57,8 @@ module _ {V : Type 0} {compare : V → V → Ordering} (order : IsTotalOrder com
       is_gt (compare z (walk compare first values)) ≡ false
   walk_above z first [] h = h
   walk_above z first (v ∷ values) h =
-      walk_above z (ord_max compare first v) values (upto order z first (ord_max compare first v) h (first_below first v))
+      walk_above z (ord_max compare first v) values (upto order z first (ord_max compare first v) h
+      (first_below first v))
 
   -- nor is a value that the walk met
   index_below : (default first : V) (values : List V) (index : ℕ) → is_gt (compare default first) ≡ false →
@@ -65,10 +66,12 @@ module _ {V : Type 0} {compare : V → V → Ordering} (order : IsTotalOrder com
   index_below default first [] index h = h
   index_below default first (v ∷ values) zero h = walk_above v (ord_max compare first v) values (second_below first v)
   index_below default first (v ∷ values) (suc index) h =
-      index_below default (ord_max compare first v) values index (upto order default first (ord_max compare first v) h (first_below first v))
+      index_below default (ord_max compare first v) values index
+      (upto order default first (ord_max compare first v) h (first_below first v))
 
   -- nor is the value that a key finds
-  lookup_below : {K : Type 0} (test : K → Bool) (default : V) (entries : List (K × V)) (first : V) → is_gt (compare default first) ≡ false →
+  lookup_below : {K : Type 0} (test : K → Bool) (default : V) (entries : List (K × V)) (first : V) →
+      is_gt (compare default first) ≡ false →
       is_gt (compare (unwrap_or (lookup test entries) default) (walk compare first (values_of entries))) ≡ false
   lookup_below test default [] first h = h
   lookup_below test default (e ∷ entries) first h =
@@ -90,10 +93,13 @@ module _ {V : Type 0} {compare : V → V → Ordering} (order : IsTotalOrder com
         | inr e ↦ inr (Contains-append_right (v ∷ []) values _ e)
       ]
     where
-      by : (b : Bool) → is_lt (compare v first) ≡ b → walk compare (ord_max compare first v) values ≡ ord_max compare first v →
-          (walk compare (ord_max compare first v) values ≡ first) ⊎ Contains (v ∷ values) (walk compare (ord_max compare first v) values)
+      by : (b : Bool) → is_lt (compare v first) ≡ b → walk compare (ord_max compare first v) values
+          ≡ ord_max compare first v →
+          (walk compare (ord_max compare first v) values ≡ first)
+          ⊎ Contains (v ∷ values) (walk compare (ord_max compare first v) values)
       by true h e = inl (e ∙ ap (λ b. cond b first v) h)
-      by false h e = inr (subst (Contains (v ∷ values)) (sym (e ∙ ap (λ b. cond b first v) h)) (Contains-get_or (v ∷ values) 0 v (omega arith)))
+      by false h e = inr (subst (Contains (v ∷ values)) (sym (e ∙ ap (λ b. cond b first v) h))
+          (Contains-get_or (v ∷ values) 0 v (omega arith)))
 
   -- a walk through the places of dense storage finds the largest value of a key
   pub dense_largest : {K : Type 0} (index_of : K → ℕ) (id_at : ℕ → K) (limit : ℕ) (default : V) (items : List V) →
@@ -103,11 +109,16 @@ module _ {V : Type 0} {compare : V → V → Ordering} (order : IsTotalOrder com
   dense_largest {K} index_of id_at limit default items round_trip = record {
     default_below = walk_above default default (kept limit items) (level default);
     values_below = λ key. index_below default default (kept limit items) (index_of key) (level default);
-    among = elim (walk_among default (kept limit items)) [ inl first ↦ inl first | inr (index, there, is) ↦ inr (id_at index, at index there is) ];
+    among = elim (walk_among default (kept limit items)) [
+      | inl first ↦ inl first
+      | inr (index, there, is) ↦
+          inr (id_at index, at index there is)
+    ];
   }
     where
       at : (index : ℕ) → index < length (kept limit items) →
-          get_or (kept limit items) index (walk compare default (kept limit items)) ≡ walk compare default (kept limit items) →
+          get_or (kept limit items) index (walk compare default (kept limit items))
+          ≡ walk compare default (kept limit items) →
           walk compare default (kept limit items) ≡ get_or (kept limit items) (index_of (id_at index)) default
       at index there is =
           let in_range : index < limit = omega (arith, length-take (min limit (2 ^ 40)) items, there) in

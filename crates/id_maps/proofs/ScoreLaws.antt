@@ -1,5 +1,6 @@
 -- What a raised score, and what scores times a fraction, make of the largest score.
-use Rattle.std.proofs.Common.{◌≡◌, ℕ, ◌≤◌, ◌*◌, ◌/◌, Bool, true, false, max, nat_lt, ◌⊎◌, inl, inr, refl, sym, ap, subst, ◌∙◌, arith, true≢false}
+use Rattle.std.proofs.Common.{◌≡◌, ℕ, ◌≤◌, ◌*◌, ◌/◌, Bool, true, false, max, nat_lt, ◌⊎◌, inl, inr, refl, sym, ap}
+use Rattle.std.proofs.Common.{subst, ◌∙◌, arith, true≢false}
 use Rattle.std.specs.Prelude.{◌≢◌}
 use Rattle.std.proofs.Math.Nat.{div-le_self, div-mul-le_self, mul-le-mul_right}
 use Rattle.std.proofs.lemmas.Nat.{le-div}
@@ -21,7 +22,8 @@ one_of a b = by (nat_lt b a) refl
     by false h = inr (grind (arith, nat_tests, h))
 
 -- a fraction keeps the order
-in_order : (a b numerator denominator : ℕ) → 1 ≤ denominator → a ≤ b → a * numerator / denominator ≤ b * numerator / denominator
+in_order : (a b numerator denominator : ℕ) → 1 ≤ denominator → a ≤ b →
+    a * numerator / denominator ≤ b * numerator / denominator
 in_order a b numerator denominator some h =
     let first = div-mul-le_self (a * numerator) denominator in
     let second = mul-le-mul_right numerator h in
@@ -37,7 +39,8 @@ module _ {N : Type 0} (values new : N → ℕ) (largest new_largest : ℕ) (is :
       → IsLargest nat_cmp 0 new new_largest
   largest_decayed numerator denominator some changed e = record {
     default_below = not_gt 0 new_largest (omega arith);
-    values_below = λ key. not_gt (new key) new_largest (let kept = in_order (values key) largest numerator denominator some (below key) in
+    values_below = λ key. not_gt (new key) new_largest (let kept =
+        in_order (values key) largest numerator denominator some (below key) in
         omega (arith, kept, changed key, e));
     among = elim is.among [
       | inl zero ↦ inl (let none = div-le_self (0 * numerator) denominator in
@@ -47,7 +50,8 @@ module _ {N : Type 0} (values new : N → ℕ) (largest new_largest : ℕ) (is :
     ];
   }
 
-  module _ (same : N → N → Bool) (reflexive : (key : N) → same key key ≡ true) (is_sameness : (a b : N) → same a b ≡ true → a ≡ b) where
+  module _ (same : N → N → Bool) (reflexive : (key : N) → same key key ≡ true) (is_sameness : (a b : N) →
+      same a b ≡ true → a ≡ b) where
     is_name : (key name : N) → (key ≡ name) ⊎ (key ≢ name)
     is_name key name = by (same key name) refl
       where
@@ -56,7 +60,8 @@ module _ {N : Type 0} (values new : N → ℕ) (largest new_largest : ℕ) (is :
         by false h = inr (λ e. true≢false (sym (reflexive name) ∙ subst (λ k. same k name ≡ false) e h))
 
     -- where a score is raised, the largest is that one or stays
-    pub largest_raised : (name : N) (score : ℕ) → values name ≤ score → IsUpdate values name score new → new_largest ≡ max largest score
+    pub largest_raised : (name : N) (score : ℕ) → values name ≤ score → IsUpdate values name score new →
+        new_largest ≡ max largest score
         → IsLargest nat_cmp 0 new new_largest
     largest_raised name score raised update e = record {
       default_below = not_gt 0 new_largest (omega arith);

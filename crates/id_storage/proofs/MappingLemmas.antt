@@ -13,9 +13,11 @@ module _ {V : Type 0} where
   no_value_in_empty (suc count) (suc index) = no_value_in_empty count index
 
   -- there are as many pairs as values
-  pub length_of_pairs : {K : Type 0} (id_at : ℕ → K) (index : ℕ) (slots : List (Option V)) → length (pairs_from id_at index slots) ≡ value_count slots
+  pub length_of_pairs : {K : Type 0} (id_at : ℕ → K) (index : ℕ) (slots : List (Option V)) →
+      length (pairs_from id_at index slots) ≡ value_count slots
   length_of_pairs id_at index [] = refl
-  length_of_pairs id_at index (None ∷ rest) = omega (arith, length_of_pairs id_at (index + 1) rest, sum_by-cons (λ slot. cond (is_some slot) 1 0) None rest)
+  length_of_pairs id_at index (None ∷ rest) =
+      omega (arith, length_of_pairs id_at (index + 1) rest, sum_by-cons (λ slot. cond (is_some slot) 1 0) None rest)
   length_of_pairs id_at index (Some value ∷ rest) =
       omega (
         arith,
@@ -36,7 +38,8 @@ module _ {V : Type 0} where
   -- a filled first slot has an index below the limit
   pub head_of_tail : (limit index : ℕ) (slots rest : List (Option V)) (slot : Option V) (value : V) →
       slots ≡ slot ∷ rest → slot ≡ Some value → IsTail limit index slots → index < limit
-  head_of_tail limit index slots rest slot value split filled tail = omega (arith, tail.below zero (rw (split, filled) refl))
+  head_of_tail limit index slots rest slot value split filled tail =
+      omega (arith, tail.below zero (rw (split, filled) refl))
 
   -- an empty first slot gives no pair
   pub pairs_past_empty : {K : Type 0} (id_at : ℕ → K) (index : ℕ) (slots rest : List (Option V)) (slot : Option V) →
@@ -56,9 +59,11 @@ module _ {V : Type 0} where
       ((place : ℕ) (value : V) → value_at slots place ≡ Some value → P (id_at (first + place), value)) →
       All P (pairs_from id_at first slots)
   all_pairs_from P id_at first [] holds = All-nil P
-  all_pairs_from {K} P id_at first (None ∷ rest) holds = all_pairs_from P id_at (first + 1) rest (later K P id_at first None rest holds)
+  all_pairs_from {K} P id_at first (None ∷ rest) holds =
+      all_pairs_from P id_at (first + 1) rest (later K P id_at first None rest holds)
   all_pairs_from {K} P id_at first (Some value ∷ rest) holds =
-      All-cons P _ _ (rw add-zero at (holds zero value refl)) (all_pairs_from P id_at (first + 1) rest (later K P id_at first (Some value) rest holds))
+      All-cons P _ _ (rw add-zero at (holds zero value refl))
+      (all_pairs_from P id_at (first + 1) rest (later K P id_at first (Some value) rest holds))
 
   -- what holds of all pairs holds of each value and its id
   pub each_value_from : {K : Type 0} (P : K × V → Type 0) (id_at : ℕ → K) (first : ℕ) (slots : List (Option V)) →

@@ -83,7 +83,8 @@ pub no_condition : (format : VersionFormat) (front : List (List ℕ)) (parts : L
 no_condition format front [] h = absurd (omega (arith, h))
 no_condition format front (part ∷ parts) h = refl
 
-pub second_if : (format : VersionFormat) (words : List (List ℕ)) (front : List (List ℕ)) (rest : Option (Bor (List Word))) → is_some rest ≡ true
+pub second_if : (format : VersionFormat) (words : List (List ℕ)) (front : List (List ℕ))
+    (rest : Option (Bor (List Word))) → is_some rest ≡ true
     → slice_split (bytes_eq (codes "if")) words ≡ front ∷ parts_behind (bytes_eq (codes "if")) rest
     → None ≡ condition_in_parts format (slice_split (bytes_eq (codes "if")) words)
 second_if format words front None some is = cc

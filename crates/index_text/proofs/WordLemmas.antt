@@ -15,7 +15,8 @@ to_blank line = position_or_len is_blank line
 
 -- of a list with one element more in front
 behind_first : (front : List ℕ) (b : ℕ) (line : List ℕ) (n : ℕ)
-    → (front ++ take (1 + n) (b ∷ line)) ∷ words (drop (1 + n) (b ∷ line)) ≡ (front ++ b ∷ take n line) ∷ words (drop n line)
+    → (front ++ take (1 + n) (b ∷ line)) ∷ words (drop (1 + n) (b ∷ line))
+    ≡ (front ++ b ∷ take n line) ∷ words (drop n line)
 behind_first front b line n =
     let one : 1 + n ≡ suc n = omega arith in
     ap (λ k. (front ++ take k (b ∷ line)) ∷ words (drop k (b ∷ line))) one

@@ -137,7 +137,7 @@ mod tests {
     use crate::indexes::split;
     use std::test::Fail;
 
-    /// The order of the first index of a text.
+    /// The format of the first index of a text.
     fn format_of(rt: &HostRuntime, text: &str) -> Result<VersionFormat, Fail> {
         let indexes = split(rt.alloc(), text.as_bytes())?;
         let lines = indexes.first().ok_or("no index")?;

@@ -1,4 +1,4 @@
-//! What may stand at a place of a line's entries.
+//! Which word may come next at each place among a line's entries.
 ghost use Rattle.std.specs.Prelude.{◌≡◌, IfOk};
 ghost use Rattle.std.specs.Result.{result_err};
 ghost use Rattle.index_text.specs.Expected.{behind_name, behind_entry, behind_keyword, behind_union, behind_condition};
@@ -13,11 +13,12 @@ use crate::set::{BadRange, read_range};
 use script_text::is_word;
 use std::alloc::{AllocError, Global};
 
-/// What a line is.
+/// The two kinds of lines.
 #[derive(Clone, Copy)]
 pub(crate) enum LineKind {
-    /// It has needs alone.
+    /// Its entries are needs only.
     Request,
+    /// Its entries are of any kind.
     Version,
 }
 
@@ -32,7 +33,7 @@ pub(crate) enum Part {
 /// A place between two words.
 #[derive(Clone, Copy)]
 pub(crate) enum Place {
-    /// Before the first entry. Directly behind a version its state may stand here too.
+    /// Before the first entry. In a version's line `excluded` or `unknown` may stand here too.
     First,
     /// Behind an entry that has ended: another one begins here, or the line ends.
     Entry,
@@ -47,7 +48,7 @@ pub(crate) enum Place {
 }
 
 impl Place {
-    /// The place behind this word, or what was expected in its stead.
+    /// The place behind this word, or what was expected instead.
     pub(crate) fn behind(
         self,
         alloc: Global,
@@ -88,7 +89,7 @@ impl Place {
     }
 }
 
-/// The place behind a word that begins an entry; none if it begins none.
+/// The place behind a word that begins an entry. `None` if the word begins no entry.
 fn behind_entry(word: &str, kind: LineKind) -> Option<Place>
     ensures { result ≡ behind_entry kind word.now }
 {
@@ -101,7 +102,7 @@ fn behind_entry(word: &str, kind: LineKind) -> Option<Place>
     }
 }
 
-/// The same of another word than `needs`, in the line of a version.
+/// The same for any other word than `needs`, in a version's line.
 fn behind_keyword(word: &str) -> Option<Place>
     ensures { result ≡ behind_keyword word.now }
 {
@@ -115,7 +116,8 @@ fn behind_keyword(word: &str) -> Option<Place>
     }
 }
 
-/// The place behind a word that goes on behind a set of a union.
+/// The place behind a word that follows a set of a union: the word joins another set, begins the condition, or begins
+/// the next entry.
 fn behind_union(word: &str, kind: LineKind) -> Option<Place>
     ensures { result ≡ behind_union kind word.now }
 {
@@ -128,7 +130,7 @@ fn behind_union(word: &str, kind: LineKind) -> Option<Place>
     behind_entry(word, kind)
 }
 
-/// The place behind a word that goes on behind a set of a condition.
+/// The place behind a word that follows a set of a condition: the word joins another set, or begins the next entry.
 fn behind_condition(word: &str, kind: LineKind) -> Option<Place>
     ensures { result ≡ behind_condition kind word.now }
 {
@@ -157,14 +159,14 @@ fn behind_name(word: &str, part: Part) -> Option<Place>
     }
 }
 
-/// Whether a word begins an entry, or ends a set that is a part of this.
+/// Whether a word can't name a set here: it begins an entry, or separates sets.
 fn is_keyword(word: &str, part: Part) -> bool
     ensures { result ≡ is_keyword part word.now }
 {
     is_entry(word) || is_separator(word, part)
 }
 
-/// Whether a word ends a set that is a part of this.
+/// Whether a word is a keyword between sets of this part, or is `if`, which ends their list.
 fn is_separator(word: &str, part: Part) -> bool
     ensures { result ≡ is_separator part word.now }
 {
@@ -176,7 +178,7 @@ fn is_separator(word: &str, part: Part) -> bool
     }
 }
 
-/// The place behind the range of a set, or what was expected in the range's stead.
+/// The place behind the range of a set, or what was expected instead of the range.
 fn behind_range(range: Result<(u32, u32), BadRange>, part: Part) -> Result<Place, Expected>
     ensures { result ≡ behind_range part (result_err range) }
 {

@@ -9,11 +9,14 @@ use Rattle.package_pool.proofs.InternedLemmas.{has_by_test, place_by_test, inter
 same : (x y : Condition) → eq-value.it x y ≡ same_condition x y
 same x y = search rules
 
-pub has_condition : (list : List Condition) (x : Condition) → has_same eq-value.it list x ≡ has_same same_condition list x
+pub has_condition : (list : List Condition) (x : Condition) →
+    has_same eq-value.it list x ≡ has_same same_condition list x
 has_condition = has_by_test eq-value.it same_condition same
 
-pub place_of_condition : (list : List Condition) (x : Condition) → interned_place eq-value.it list x ≡ interned_place same_condition list x
+pub place_of_condition : (list : List Condition) (x : Condition) →
+    interned_place eq-value.it list x ≡ interned_place same_condition list x
 place_of_condition = place_by_test eq-value.it same_condition same
 
-pub interned_condition : (list : List Condition) (x : Condition) → interned eq-value.it list x ≡ interned same_condition list x
+pub interned_condition : (list : List Condition) (x : Condition) →
+    interned eq-value.it list x ≡ interned same_condition list x
 interned_condition = interned_by_test eq-value.it same_condition same

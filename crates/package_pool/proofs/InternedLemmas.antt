@@ -8,7 +8,8 @@ use Rattle.std.proofs.lemmas.List.{map-append}
 use Rattle.package_pool.specs.Interned.{has_same, interned, interned_place, first_same}
 
 -- values are equal exactly if what is seen of them is
-module _ {X Y : Type 0} (view : X → Y) (eq : X → X → Bool) (same : Y → Y → Bool) (agree : (x y : X) → eq x y ≡ same (view x) (view y)) where
+module _ {X Y : Type 0} (view : X → Y) (eq : X → X → Bool) (same : Y → Y → Bool) (agree : (x y : X) →
+    eq x y ≡ same (view x) (view y)) where
   pub has_by_view : (xs : List X) (x : X) → has_same eq xs x ≡ has_same same (map view xs) (view x)
   has_by_view [] x = refl
   has_by_view (k ∷ ks) x =
@@ -20,13 +21,15 @@ module _ {X Y : Type 0} (view : X → Y) (eq : X → X → Bool) (same : Y → Y
       ap (λ b. cond (not b) (1 + interned_place eq ks x) 0) (agree x k)
       ∙ ap (λ n. cond (not (same (view x) (view k))) (1 + n) 0) (place_by_view ks x)
 
-  seen_either : (b : Bool) (xs : List X) (x : X) → map view (cond b xs (xs ++ x ∷ [])) ≡ cond b (map view xs) (map view xs ++ view x ∷ [])
+  seen_either : (b : Bool) (xs : List X) (x : X) → map view (cond b xs (xs ++ x ∷ []))
+      ≡ cond b (map view xs) (map view xs ++ view x ∷ [])
   seen_either true xs x = refl
   seen_either false xs x = map-append view xs (x ∷ [])
 
   pub interned_by_view : (xs : List X) (x : X) → map view (interned eq xs x) ≡ interned same (map view xs) (view x)
   interned_by_view xs x =
-      seen_either (has_same eq xs x) xs x ∙ ap (λ b. cond b (map view xs) (map view xs ++ view x ∷ [])) (has_by_view xs x)
+      seen_either (has_same eq xs x) xs x
+      ∙ ap (λ b. cond b (map view xs) (map view xs ++ view x ∷ [])) (has_by_view xs x)
 
 -- the two tests are one
 module _ {X : Type 0} (eq same : X → X → Bool) (agree : (x y : X) → eq x y ≡ same x y) where
@@ -45,13 +48,15 @@ module _ {X : Type 0} (eq same : X → X → Bool) (agree : (x y : X) → eq x y
 
 -- what an interned value gets
 module _ {X : Type 0} (same : X → X → Bool) (x : X) where
-  stands_behind : (b : Bool) (k : X) (ks : List X) (place : ℕ) (found : Option X) → slice_get (cond b ks (ks ++ x ∷ [])) place ≡ found
+  stands_behind : (b : Bool) (k : X) (ks : List X) (place : ℕ) (found : Option X) →
+      slice_get (cond b ks (ks ++ x ∷ [])) place ≡ found
       → slice_get (cond b (k ∷ ks) (k ∷ ks ++ x ∷ [])) (suc place) ≡ found
   stands_behind true k ks place found h = h
   stands_behind false k ks place found h = h
 
   -- at its place stands the first equal value
-  pub first_stands : (list : List X) → slice_get (interned same list x) (interned_place same list x) ≡ Some (first_same same list x)
+  pub first_stands : (list : List X) → slice_get (interned same list x) (interned_place same list x)
+      ≡ Some (first_same same list x)
   first_stands [] = refl
   first_stands (k ∷ ks) =
       elim (same x k) as (λ b. slice_get (cond (b || has_same same ks x) (k ∷ ks) (k ∷ ks ++ x ∷ []))
@@ -67,7 +72,8 @@ module _ {X : Type 0} (same : X → X → Bool) (x : X) where
     place_push [] = ap (λ b. cond (not b) 1 0) itself
     place_push (k ∷ ks) = ap (λ n. cond (not (same x k)) (1 + n) 0) (place_push ks)
 
-    place_either : (b : Bool) (list : List X) → interned_place same (cond b list (list ++ x ∷ [])) x ≡ interned_place same list x
+    place_either : (b : Bool) (list : List X) → interned_place same (cond b list (list ++ x ∷ [])) x
+        ≡ interned_place same list x
     place_either true list = refl
     place_either false list = place_push list
 

@@ -23,4 +23,5 @@ module _ {N VS V : Type 0} (p q : Lists N VS V) (later : IsLater p q) where
   operands_still (Binary operator left right) h =
       let more = extended_length p.conditions q.conditions later.conditions in
       (omega (arith, h.0, more), omega (arith, h.1, more))
-  operands_still (Requirement set) h = omega (arith, h, extended_length p.version_sets q.version_sets later.version_sets)
+  operands_still (Requirement set) h =
+      omega (arith, h, extended_length p.version_sets q.version_sets later.version_sets)

@@ -1,5 +1,6 @@
 -- Each known condition is one formula, and its normal form holds where it does.
-use Rattle.std.proofs.Common.{◌≡◌, ℕ, zero, suc, ◌<◌, Bool, true, false, ◌&&◌, ◌||◌, List, [], ◌∷◌, ◌++◌, sym, refl, subst, ◌∙◌, arith}
+use Rattle.std.proofs.Common.{◌≡◌, ℕ, zero, suc, ◌<◌, Bool, true, false, ◌&&◌, ◌||◌, List, [], ◌∷◌, ◌++◌, sym, refl}
+use Rattle.std.proofs.Common.{subst, ◌∙◌, arith}
 use Rattle.std.specs.Prelude.{map}
 use Rattle.std.specs.List.{list_all, list_any}
 use Rattle.std.proofs.lemmas.List.Folds.{list_any-append, list_all-append}
@@ -7,7 +8,8 @@ use Rattle.typed_ids.specs.declared.version_set_id.VersionSetId.{VersionSetId}
 use Rattle.providers.specs.declared.condition.Condition.{Condition}
 use Rattle.providers.specs.declared.condition.Condition.TheVariants.{Binary, Requirement}
 use Rattle.providers.specs.Provider.{Universe, AreOperandsKnown, IsMadeOfKnown}
-use Rattle.providers.specs.Conditions.{Formula, Leaf, Both, Either, joined, Denotes, leaf, binary, crossed, normal_form, form_holds, formula_holds}
+use Rattle.providers.specs.Conditions.{Formula, Leaf, Both, Either, joined, Denotes, leaf, binary, crossed}
+use Rattle.providers.specs.Conditions.{normal_form, form_holds, formula_holds}
 
 module _ {N S : Type 0} (c : Universe N S) where
   -- ---- a known condition is a formula
@@ -48,7 +50,8 @@ module _ {N S : Type 0} (c : Universe N S) where
 
   -- ---- the formula of each condition
 
-  pick : AreOperandsKnown c → (i : ℕ) → (b : Bool) → c.knows_condition i ≡ b → (f : Formula) × (b ≡ true → Denotes c i f)
+  pick : AreOperandsKnown c → (i : ℕ) → (b : Bool) → c.knows_condition i ≡ b → (f : Formula)
+      × (b ≡ true → Denotes c i f)
   pick laws i true known = let d = denoted laws (suc i) i (omega arith) known in (d.0, λ h. d.1)
   pick laws i false known = (Leaf (record { 0 = 0 }), λ h. cc)
 
@@ -56,7 +59,8 @@ module _ {N S : Type 0} (c : Universe N S) where
   pub formula_at : AreOperandsKnown c → ℕ → Formula
   formula_at laws i = (pick laws i (c.knows_condition i) refl).0
 
-  pub formula_at-denotes : (laws : AreOperandsKnown c) (i : ℕ) → c.knows_condition i ≡ true → Denotes c i (formula_at laws i)
+  pub formula_at-denotes : (laws : AreOperandsKnown c) (i : ℕ) → c.knows_condition i ≡ true →
+      Denotes c i (formula_at laws i)
   unfolding formula_at
   formula_at-denotes laws i known = (pick laws i (c.knows_condition i) refl).1 known
 
@@ -72,7 +76,8 @@ one_holds holds x [] = none (list_all holds x)
   where
     none : (a : Bool) → false ≡ (a && false)
     none a = grind arith
-one_holds holds x (y ∷ ys) = rw (list_all-append holds x y, one_holds holds x ys) (spread (list_all holds x) (list_all holds y) (list_any (list_all holds) ys))
+one_holds holds x (y ∷ ys) = rw (list_all-append holds x y, one_holds holds x ys)
+    (spread (list_all holds x) (list_all holds y) (list_any (list_all holds) ys))
   where
     spread : (a b c : Bool) → ((a && b) || (a && c)) ≡ (a && (b || c))
     spread a b c = grind arith
@@ -81,13 +86,18 @@ crossed_holds : {V : Type 0} (holds : V → Bool) (xs ys : List (List V)) →
     list_any (list_all holds) (crossed xs ys) ≡ (list_any (list_all holds) xs && list_any (list_all holds) ys)
 crossed_holds holds [] ys = refl
 crossed_holds holds (x ∷ xs) ys =
-    rw (list_any-append (list_all holds) (map (λ y. x ++ y) ys) (crossed xs ys), one_holds holds x ys, crossed_holds holds xs ys)
+    rw (
+      list_any-append (list_all holds) (map (λ y. x ++ y) ys) (crossed xs ys),
+      one_holds holds x ys,
+      crossed_holds holds xs ys,
+    )
     (spread (list_all holds x) (list_any (list_all holds) xs) (list_any (list_all holds) ys))
   where
     spread : (a b c : Bool) → ((a && c) || (b && c)) ≡ ((a || b) && c)
     spread a b c = grind arith
 
-pub form_keeps_truth : (holds : VersionSetId → Bool) (f : Formula) → form_holds holds (normal_form f) ≡ formula_holds holds f
+pub form_keeps_truth : (holds : VersionSetId → Bool) (f : Formula) →
+    form_holds holds (normal_form f) ≡ formula_holds holds f
 form_keeps_truth holds (Leaf set) = one (holds set)
   where
     one : (a : Bool) → ((a && true) || false) ≡ a
@@ -97,4 +107,5 @@ form_keeps_truth holds (Either f g) = rw (
   form_keeps_truth holds f,
   form_keeps_truth holds g,
 ) refl
-form_keeps_truth holds (Both f g) = rw (crossed_holds holds (normal_form f) (normal_form g), form_keeps_truth holds f, form_keeps_truth holds g) refl
+form_keeps_truth holds (Both f g) =
+    rw (crossed_holds holds (normal_form f) (normal_form g), form_keeps_truth holds f, form_keeps_truth holds g) refl

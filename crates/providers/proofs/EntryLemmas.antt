@@ -1,5 +1,6 @@
 -- What insertions and writes in the table below a map make of its entries.
-use Rattle.std.proofs.Common.{◌≡◌, ◌<◌, Bool, true, false, not, cond, ℕ, ◌+◌, List, [], ◌∷◌, length, slice_get, Some, ◌∙◌, ap, refl, arith, suc}
+use Rattle.std.proofs.Common.{◌≡◌, ◌<◌, Bool, true, false, not, cond, ℕ, ◌+◌, List, [], ◌∷◌, length, slice_get, Some}
+use Rattle.std.proofs.Common.{◌∙◌, ap, refl, arith, suc}
 use Rattle.std.proofs.Math.Path.{fun_ext}
 use Rattle.std.specs.List.{position_or_len}
 use Rattle.std.specs.Map.{lookup, keys_of, values_of}
@@ -8,14 +9,16 @@ use Rattle.providers.specs.declared.requirement.Requirement.{Requirement}
 use Rattle.providers.specs.Requirement.{same_requirement}
 use Rattle.providers.specs.RequirementMap.{with_entry}
 
-pub insert_entry-is : {V : Type 0} (eq : Requirement → Requirement → Bool) → ((r q : Requirement) → eq r q ≡ same_requirement r q)
+pub insert_entry-is : {V : Type 0} (eq : Requirement → Requirement → Bool) →
+    ((r q : Requirement) → eq r q ≡ same_requirement r q)
     → (es : List (Requirement × V)) (r : Requirement) (v : V) → insert_entry eq es r v ≡ with_entry es r v
 insert_entry-is eq same [] r v = refl
 insert_entry-is eq same (e ∷ es) r v =
     ap (λ b. cond b ((e.0, v) ∷ es) (e ∷ insert_entry eq es r v)) (same r e.0)
     ∙ ap (λ rest. cond (same_requirement r e.0) ((e.0, v) ∷ es) (e ∷ rest)) (insert_entry-is eq same es r v)
 
-module _ {V : Type 0} (r : Requirement) (test : Requirement → Bool) (same : (q : Requirement) → test q ≡ same_requirement r q) where
+module _ {V : Type 0} (r : Requirement) (test : Requirement → Bool) (same : (q : Requirement) →
+    test q ≡ same_requirement r q) where
   -- a look-up by a test that answers alike
   pub lookup_alike : (es : List (Requirement × V)) → lookup test es ≡ lookup (same_requirement r) es
   lookup_alike es = ap (λ t. lookup t es) (fun_ext same)
@@ -30,16 +33,19 @@ module _ {V : Type 0} (r : Requirement) where
   place_within [] v = omega arith
   place_within (e ∷ es) v =
       let rest = place_within es v in
-      elim (same_requirement r e.0) as (λ b. cond (not b) (1 + place es) 0 < length (cond b ((e.0, v) ∷ es) (e ∷ with_entry es r v))) [
+      elim (same_requirement r e.0) as (λ b. cond (not b) (1 + place es) 0 < length
+      (cond b ((e.0, v) ∷ es) (e ∷ with_entry es r v))) [
         | true ↦ omega arith
         | false ↦ omega (arith, rest)
       ]
 
   -- it has the value
-  pub value_in_place : (es : List (Requirement × V)) (v : V) → slice_get (values_of (with_entry es r v)) (place es) ≡ Some v
+  pub value_in_place : (es : List (Requirement × V)) (v : V) →
+      slice_get (values_of (with_entry es r v)) (place es) ≡ Some v
   value_in_place [] v = refl
   value_in_place (e ∷ es) v =
-      elim (same_requirement r e.0) as (λ b. slice_get (values_of (cond b ((e.0, v) ∷ es) (e ∷ with_entry es r v))) (cond (not b) (1 + place es) 0) ≡ Some v) [
+      elim (same_requirement r e.0) as (λ b. slice_get (values_of (cond b ((e.0, v) ∷ es) (e ∷ with_entry es r v)))
+      (cond (not b) (1 + place es) 0) ≡ Some v) [
         | true ↦ refl
         | false ↦
             let next : 1 + place es ≡ suc (place es) = omega arith in
@@ -47,7 +53,8 @@ module _ {V : Type 0} (r : Requirement) where
       ]
 
   -- a write in that place gives the requirement another value
-  pub set_in_place : (es : List (Requirement × V)) (v w : V) → set_value_at (with_entry es r v) (place es) w ≡ with_entry es r w
+  pub set_in_place : (es : List (Requirement × V)) (v w : V) →
+      set_value_at (with_entry es r v) (place es) w ≡ with_entry es r w
   set_in_place [] v w = refl
   set_in_place (e ∷ es) v w =
       elim (same_requirement r e.0) as (λ b. set_value_at (cond b ((e.0, v) ∷ es) (e ∷ with_entry es r v))

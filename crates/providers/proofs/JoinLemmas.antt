@@ -4,7 +4,8 @@ use Rattle.std.specs.List.{join_by}
 use Rattle.std.proofs.lemmas.List.Folds.{flat_map-map}
 
 module _ {A : Type 0} (separator : List A) where
-  pub join_by-mapped : {X : Type 0} (f : X → List A) (xs : List X) → join_by f separator xs ≡ join_by (λ piece. piece) separator (map f xs)
+  pub join_by-mapped : {X : Type 0} (f : X → List A) (xs : List X) →
+      join_by f separator xs ≡ join_by (λ piece. piece) separator (map f xs)
   join_by-mapped f [] = refl
   join_by-mapped f (x ∷ xs) = ap (λ rest. f x ++ rest) (sym (flat_map-map (λ piece. separator ++ piece) f xs))
 

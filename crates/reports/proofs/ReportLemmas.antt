@@ -12,7 +12,8 @@ use Rattle.solutions.specs.declared.reason.Reason.{Reason}
 
 pub is_report : {N S A : Type 0} (universe : Universe N S) (texts : Texts N S) (same_name : N → N → Bool)
     (same : S → S → Bool) (answers : Answers N S) (names : List N) (reasons : List (Reason N S))
-    (lines shown : List (Line N S A)) (old new : String A) → AreTold universe.solvable_name reasons lines → shown ≡ lines
+    (lines shown : List (Line N S A)) (old new : String A) → AreTold universe.solvable_name reasons lines →
+    shown ≡ lines
     → IsAppended old new (lines_text (text_with_names universe texts same answers names) (needed_by universe)
     (says_of same_name universe) shown)
     → IsContinuedBy old new (IsReport A universe texts same_name same answers names reasons)

@@ -1,8 +1,8 @@
 //! A report for people: why there is no solution.
 //!
 //! A search answers a list of reasons ([`Reason`]), each of one version. [`merged`] tells those together that say the
-//! same of several versions of a package: a [`Line`] each. [`write_report`] writes them, and [`write_dot`] makes a graph
-//! of them. [`write_report_with_names`] also says which package may be meant by one that there isn't.
+//! same of several versions of a package: a [`Line`] each. [`write_report`] writes them, and [`write_dot`] makes a
+//! graph of them. [`write_report_with_names`] also says which package may be meant by one that there isn't.
 //!
 //! All of it is for any provider. The contracts (`specs/Lines`, `LineTexts`, `Reports`) say that the lines tell the
 //! given reasons, each once, and no others; and that the text of a line is that of `specs/LineTexts`. `specs/Nearest`

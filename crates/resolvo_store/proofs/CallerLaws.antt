@@ -1,13 +1,16 @@
 -- Laws for those who write a search over a store: what follows from the contracts of its calls.
 pub use Rattle.resolvo_store.proofs.ForbiddingLaws.{forbids_two}
-use Rattle.std.proofs.Common.{◌≡◌, ℕ, ◌<◌, ◌≤◌, Bool, true, false, cond, not, List, [], ◌∷◌, ◌++◌, length, map, get_or, Option, None, Some, refl, arith, sym, ◌∙◌, ap, subst, zero, suc, inl, inr}
-use Rattle.std.specs.Prelude.{◌==◌, nat_lt, ◌&&◌, All, Contains, filter, flat_map, fold, find, is_some, is_none, option_map, MatchOption}
+use Rattle.std.proofs.Common.{◌≡◌, ℕ, ◌<◌, ◌≤◌, Bool, true, false, cond, not, List, [], ◌∷◌, ◌++◌, length, map}
+use Rattle.std.proofs.Common.{get_or, Option, None, Some, refl, arith, sym, ◌∙◌, ap, subst, zero, suc, inl, inr}
+use Rattle.std.specs.Prelude.{◌==◌, nat_lt, ◌&&◌, All, Contains, filter, flat_map, fold, find, is_some, is_none}
+use Rattle.std.specs.Prelude.{option_map, MatchOption}
 use Rattle.std.specs.Bool.{beq}
 use Rattle.std.specs.List.{list_any, list_all}
 use Rattle.std.proofs.lemmas.Bool.{eqb-true}
 use Rattle.std.proofs.lemmas.Bool.Decides.{nat_tests}
 use Rattle.std.proofs.lemmas.List.{append-nil}
-use Rattle.std.proofs.lemmas.List.Elements.{All-nil, All-cons, All-head, All-tail, All-contains, Contains-get_or, Contains-push, Contains-append_left, Contains-append_right}
+use Rattle.std.proofs.lemmas.List.Elements.{All-nil, All-cons, All-head, All-tail, All-contains, Contains-get_or}
+use Rattle.std.proofs.lemmas.List.Elements.{Contains-push, Contains-append_left, Contains-append_right}
 use Rattle.std.proofs.lemmas.Map.Views.{Contains-from_any}
 use Rattle.typed_ids.specs.declared.error.StoreError.{StoreError}
 use Rattle.typed_ids.specs.declared.error.StoreError.TheVariants.{OutOfMemory, IdSpace, LevelOutOfRange}
@@ -22,7 +25,8 @@ use Rattle.resolvo_queue.specs.Scan.{add_parent, parents, clauses_of, scan, are_
 use Rattle.resolvo_queue.specs.declared.offer.Offer.{Offer}
 use Rattle.resolvo_queue.specs.Pick.{decided}
 use Rattle.resolvo_queue.proofs.Picks.Unbeaten.{none_decided}
-use Rattle.resolvo_store.specs.Command.{Command, Load, Assign, UndoUntil, Saturate, Decide, Reply, Assigned, Already, Clash, Done, NoDecision, Falsified, Conflict, Refused, IsRefused, is_saturate}
+use Rattle.resolvo_store.specs.Command.{Command, Load, Assign, UndoUntil, Saturate, Decide, Reply, Assigned, Already}
+use Rattle.resolvo_store.specs.Command.{Clash, Done, NoDecision, Falsified, Conflict, Refused, IsRefused, is_saturate}
 use Rattle.resolvo_store.specs.Store.{Store, values, lists_of, condition_of, rows_of, score_of}
 use Rattle.resolvo_store.specs.Refusals.{first_refusal}
 use Rattle.resolvo_store.specs.Outcome.{outcome, load, assign_reply, assigned, decision, falsified_clause, picked}
@@ -70,16 +74,22 @@ module _ {X : Type 0} where
   no_member x has = omega (arith, has.1)
 
   -- a member that passes the test is kept
-  Contains-filter : (test : X → Bool) (xs : List X) (x : X) → test x ≡ true → Contains xs x → Contains (filter test xs) x
+  Contains-filter : (test : X → Bool) (xs : List X) (x : X) → test x ≡ true → Contains xs x →
+      Contains (filter test xs) x
   Contains-filter test [] x pass has = has
   Contains-filter test (y ∷ xs) x pass has =
       Contains-cases (Contains (filter test (y ∷ xs)) x) x y xs has
-      (λ e. subst (λ b. Contains (cond b (y ∷ filter test xs) (filter test xs)) x) (sym (ap test e ∙ pass)) (subst (λ z. Contains (z ∷ filter test xs) x) (sym e) (Contains-head x (filter test xs))))
-      (λ k. elim (test y) as (λ b. Contains (cond b (y ∷ filter test xs) (filter test xs)) x)
-      [ true ↦ Contains-cons x y (filter test xs) (Contains-filter test xs x pass k) | false ↦ Contains-filter test xs x pass k ])
+      (λ e. subst (λ b. Contains (cond b (y ∷ filter test xs) (filter test xs)) x) (sym (ap test e ∙ pass))
+      (subst (λ z. Contains (z ∷ filter test xs) x) (sym e) (Contains-head x (filter test xs))))
+      (λ k. elim (test y) as (λ b. Contains (cond b (y ∷ filter test xs) (filter test xs)) x) [
+        | true ↦ Contains-cons x y (filter test xs) (Contains-filter test xs x pass k)
+        | false ↦
+            Contains-filter test xs x pass k
+      ])
 
   -- what the list of a member contains, the lists of all members contain
-  Contains-flat_map : {Y : Type 0} (f : X → List Y) (xs : List X) (x : X) (y : Y) → Contains xs x → Contains (f x) y → Contains (flat_map f xs) y
+  Contains-flat_map : {Y : Type 0} (f : X → List Y) (xs : List X) (x : X) (y : Y) → Contains xs x →
+      Contains (f x) y → Contains (flat_map f xs) y
   Contains-flat_map f [] x y has own = absurd (no_member x has)
   Contains-flat_map f (z ∷ xs) x y has own =
       Contains-cases (Contains (flat_map f (z ∷ xs)) y) x z xs has
@@ -104,13 +114,18 @@ add_has seen p = by_test (list_any (λ q. q == p) seen) refl
 
 add_keeps : (seen : List ℕ) (p q : ℕ) → Contains seen q → Contains (add_parent seen p) q
 add_keeps seen p q has =
-    elim (list_any (λ x. x == p) seen) as (λ b. Contains (cond b seen (seen ++ p ∷ [])) q) [ true ↦ has | false ↦ Contains-append_left seen (p ∷ []) q has ]
+    elim (list_any (λ x. x == p) seen) as (λ b. Contains (cond b seen (seen ++ p ∷ [])) q) [
+      | true ↦ has
+      | false ↦
+          Contains-append_left seen (p ∷ []) q has
+    ]
 
 parents_keep : (seen ps : List ℕ) (q : ℕ) → Contains seen q → Contains (fold add_parent seen ps) q
 parents_keep seen [] q has = has
 parents_keep seen (p ∷ ps) q has = parents_keep (add_parent seen p) ps q (add_keeps seen p q has)
 
-parents_have : (seen : List ℕ) (cs : List RequiresClause) (c : RequiresClause) → Contains cs c → Contains (fold add_parent seen (map (λ d. d.parent) cs)) c.parent
+parents_have : (seen : List ℕ) (cs : List RequiresClause) (c : RequiresClause) → Contains cs c →
+    Contains (fold add_parent seen (map (λ d. d.parent) cs)) c.parent
 parents_have seen [] c has = absurd (no_member c has)
 parents_have seen (d ∷ cs) c has =
     Contains-cases (Contains (fold add_parent (add_parent seen d.parent) (map (λ x. x.parent) cs)) c.parent) c d cs has
@@ -123,7 +138,8 @@ pub scan_has_each : (cs : List RequiresClause) → All (Contains (scan cs)) cs
 scan_has_each cs =
     ByMember (Contains (scan cs)) cs
     (λ c has. Contains-flat_map (clauses_of cs) (parents cs) c.parent c (parents_have [] cs c has)
-    (Contains-filter (λ d. d.parent == c.parent) cs c (let same : (c.parent == c.parent) ≡ true = grind (arith, nat_tests) in same) has))
+    (Contains-filter (λ d. d.parent == c.parent) cs c (let same : (c.parent == c.parent) ≡ true =
+    grind (arith, nat_tests) in same) has))
 
 -- ---- what a reply tells
 
@@ -153,21 +169,25 @@ closed false f e g = refl
 
 module _ {N S : Type 0} where
   -- a command but Saturate that isn't refused is answered by its outcome
-  pub answered_by_outcome : (old new : Store N S) (c : Command N S) (reply : Reply) → is_saturate c ≡ false → Step old c reply new → (IsRefused reply → ⊥)
+  pub answered_by_outcome : (old new : Store N S) (c : Command N S) (reply : Reply) → is_saturate c ≡ false →
+      Step old c reply new → (IsRefused reply → ⊥)
       → (reply ≡ (outcome old c).reply) × (new ≡ (outcome old c).store)
   answered_by_outcome old new c reply plain step answered = by_refusal (first_refusal old c) step
     where
-      by_reply : (r : Reply) → (IsRefused r → ⊥) → HasOutcome old c r new → (r ≡ (outcome old c).reply) × (new ≡ (outcome old c).store)
+      by_reply : (r : Reply) → (IsRefused r → ⊥) → HasOutcome old c r new → (r ≡ (outcome old c).reply)
+          × (new ≡ (outcome old c).store)
       by_reply (Refused e) n h = absurd (n tt)
       by_reply _ n h = (h.1, h.2)
 
-      by_refusal : (x : Option StoreError) → MatchOption x (IsAnswered old c reply new) (λ e. (reply ≡ Refused e) × (new ≡ old))
+      by_refusal : (x : Option StoreError) → MatchOption x (IsAnswered old c reply new) (λ e. (reply ≡ Refused e)
+          × (new ≡ old))
           → (reply ≡ (outcome old c).reply) × (new ≡ (outcome old c).store)
       by_refusal None h = by_reply reply answered (has_outcome old new c reply plain h)
       by_refusal (Some e) h = absurd (answered (subst IsRefused (sym h.0) tt))
 
   -- after `Assigned` the variable has the value
-  pub assigned_value : (old new : Store N S) (v : ℕ) (value : Bool) (clause level : ℕ) → Step old (Assign v value clause level) Assigned new
+  pub assigned_value : (old new : Store N S) (v : ℕ) (value : Bool) (clause level : ℕ) →
+      Step old (Assign v value clause level) Assigned new
       → values new v ≡ Some value
   assigned_value old new v value clause level step =
       let answer = answered_by_outcome old new (Assign v value clause level) Assigned refl step (λ h. h) in
@@ -180,12 +200,15 @@ module _ {N S : Type 0} where
       by_test true h = cc
       by_test false h = cc
 
-      by_value : (o : Option Bool) → values old v ≡ o → Assigned ≡ assign_reply o value → val (assigned o old.trail entry) v ≡ Some value
-      by_value None h e = val-push old.trail entry v h ∙ (let same : (v == v) ≡ true = grind (arith, nat_tests) in ap (λ b. cond b (Some value) (val old.trail v)) same)
+      by_value : (o : Option Bool) → values old v ≡ o → Assigned ≡ assign_reply o value →
+          val (assigned o old.trail entry) v ≡ Some value
+      by_value None h e = val-push old.trail entry v h ∙ (let same : (v == v) ≡ true = grind (arith, nat_tests) in
+          ap (λ b. cond b (Some value) (val old.trail v)) same)
       by_value (Some known) h e = absurd (by_test (beq known value) e)
 
   -- after `Clash` it has the other one
-  pub clashing_value : (old new : Store N S) (v : ℕ) (value : Bool) (clause level : ℕ) → Step old (Assign v value clause level) Clash new
+  pub clashing_value : (old new : Store N S) (v : ℕ) (value : Bool) (clause level : ℕ) →
+      Step old (Assign v value clause level) Clash new
       → values new v ≡ Some (not value)
   clashing_value old new v value clause level step =
       let answer = answered_by_outcome old new (Assign v value clause level) Clash refl step (λ h. h) in
@@ -200,12 +223,14 @@ module _ {N S : Type 0} where
       other false true h = refl
       other false false h = cc
 
-      by_value : (o : Option Bool) → values old v ≡ o → Clash ≡ assign_reply o value → val (assigned o old.trail entry) v ≡ Some (not value)
+      by_value : (o : Option Bool) → values old v ≡ o → Clash ≡ assign_reply o value →
+          val (assigned o old.trail entry) v ≡ Some (not value)
       by_value None h e = cc
       by_value (Some known) h e = h ∙ ap Some (other known value e)
 
   -- a Load adds no clause, whatever it is answered
-  pub load_adds_no_clause : (old new : Store N S) (r : Requirement) (reply : Reply) → Step old (Load r) reply new → new.requires ≡ old.requires
+  pub load_adds_no_clause : (old new : Store N S) (r : Requirement) (reply : Reply) → Step old (Load r) reply new →
+      new.requires ≡ old.requires
   load_adds_no_clause old new r reply step = by_refusal (first_refusal old (Load r)) step
     where
       by_lists : (o : Option (List (List ℕ))) → (load old r o).store.requires ≡ old.requires
@@ -216,7 +241,8 @@ module _ {N S : Type 0} where
       by_reply (Refused e) h = ap (λ (st : Store N S). st.requires) h.1
       by_reply _ h = ap (λ (st : Store N S). st.requires) h.2 ∙ by_lists (lists_of old r)
 
-      by_refusal : (x : Option StoreError) → MatchOption x (IsAnswered old (Load r) reply new) (λ e. (reply ≡ Refused e) × (new ≡ old))
+      by_refusal : (x : Option StoreError) →
+          MatchOption x (IsAnswered old (Load r) reply new) (λ e. (reply ≡ Refused e) × (new ≡ old))
           → new.requires ≡ old.requires
       by_refusal None h = by_reply reply h
       by_refusal (Some e) h = ap (λ (st : Store N S). st.requires) h.1
@@ -239,7 +265,8 @@ module _ {N S : Type 0} where
   undo_answered old level _ h = cc
 
   -- an undo to level 0 empties the trail
-  pub undone_to_zero : (old new : Store N S) (reply : Reply) → IsSound old → Step old (UndoUntil 0) reply new → new.trail ≡ []
+  pub undone_to_zero : (old new : Store N S) (reply : Reply) → IsSound old → Step old (UndoUntil 0) reply new →
+      new.trail ≡ []
   undone_to_zero old new reply sound step = by_reply reply step
     where
       by_reply : (r : Reply) → IsAnswered old (UndoUntil 0) r new → new.trail ≡ []
@@ -247,23 +274,31 @@ module _ {N S : Type 0} where
       by_reply _ h = ap (λ st. st.trail) h.2 ∙ none_kept old.trail sound.trail.levels
 
   -- after `NoDecision` no clause of the scan is open
-  pub none_open : (old new : Store N S) → Step old Decide NoDecision new → All (λ c. is_open (values new) (condition_of new) (rows_of new) c ≡ false) (scan new.requires)
+  pub none_open : (old new : Store N S) → Step old Decide NoDecision new →
+      All (λ c. is_open (values new) (condition_of new) (rows_of new) c ≡ false) (scan new.requires)
   none_open old new step =
       let answer = answered_by_outcome old new Decide NoDecision refl step (λ h. h) in
       let none = no_decision (falsified_clause old) (picked old) answer.0 in
-      let falsified = none_passes (is_falsified (values old) (condition_of old) (rows_of old)) (scan old.requires) none.0 in
-      let eligible = (none_decided (values old) (condition_of old) (rows_of old) (score_of old) old.requires (option_map decided (picked old)) refl).0 (ap (option_map decided) none.1) in
-      subst (λ st. All (λ c. is_open (values st) (condition_of st) (rows_of st) c ≡ false) (scan st.requires)) (sym answer.1)
-      (λ k d within. closed (is_open (values old) (condition_of old) (rows_of old) (get_or (scan old.requires) k d)) (frontier (values old) (rows_of old (get_or (scan old.requires) k d).requirement))
+      let falsified = none_passes (is_falsified (values old) (condition_of old) (rows_of old))
+      (scan old.requires) none.0 in
+      let eligible = (none_decided (values old) (condition_of old) (rows_of old) (score_of old) old.requires
+      (option_map decided (picked old)) refl).0 (ap (option_map decided) none.1) in
+      subst (λ st. All (λ c. is_open (values st) (condition_of st) (rows_of st) c ≡ false) (scan st.requires))
+      (sym answer.1)
+      (λ k d within. closed (is_open (values old) (condition_of old) (rows_of old) (get_or (scan old.requires) k d))
+      (frontier (values old) (rows_of old (get_or (scan old.requires) k d).requirement))
       (eligible k d within) (falsified k d within))
 
-  -- after `NoDecision` the store is solved: each registered clause whose parent is true, and whose condition is met, has a
+  -- after `NoDecision` the store is solved: each registered clause whose parent is true, and whose condition is met,
+  -- has a
   -- candidate that is true
   pub solved : (old new : Store N S) → Step old Decide NoDecision new → IsSolved new
   solved old new step = λ k d within.
-      met (known_true (values new (get_or new.requires k d).parent)) (are_literals_false (values new) (condition_of new (get_or new.requires k d).condition))
+      met (known_true (values new (get_or new.requires k d).parent))
+      (are_literals_false (values new) (condition_of new (get_or new.requires k d).condition))
       (has_true_row (values new) (rows_of new (get_or new.requires k d).requirement))
-      (All-contains (λ c. is_open (values new) (condition_of new) (rows_of new) c ≡ false) (scan new.requires) (get_or new.requires k d) (none_open old new step) (scan_has_each new.requires k d within))
+      (All-contains (λ c. is_open (values new) (condition_of new) (rows_of new) c ≡ false) (scan new.requires)
+      (get_or new.requires k d) (none_open old new step) (scan_has_each new.requires k d within))
     where
       met : (a b c : Bool) → (a && (b && not c)) ≡ false → a ≡ true → b ≡ true → c ≡ true
       met a b true h e f = refl
@@ -274,27 +309,36 @@ module _ {N S : Type 0} where
   -- ---- a Saturate
 
   -- whatever it replies, the trail has more forced entries, or as many
-  pub forces_more : (old new : Store N S) (level : ℕ) (reply : Reply) → Step old (Saturate level) reply new → HasImpliedMore level old new
+  pub forces_more : (old new : Store N S) (level : ℕ) (reply : Reply) → Step old (Saturate level) reply new →
+      HasImpliedMore level old new
   forces_more old new level reply step = elim (saturate_answered old new level reply step) [
-    | inl refused ↦ record { added = []; longer = ap (λ st. st.trail) refused.1 ∙ sym (append-nil old.trail); implied = tt }
+    | inl refused ↦ record {
+      added = [];
+      longer = ap (λ st. st.trail) refused.1
+          ∙ sym (append-nil old.trail);
+      implied = tt;
+    }
     | inr is ↦ (let so_far = saturated_so_far level old new reply is.1 in
         record { added = so_far.added; longer = ap (λ st. st.trail) so_far.rest; implied = so_far.implied })
   ]
 
   -- and each model is one still
-  pub rules_out_none : (old new : Store N S) (level : ℕ) (reply : Reply) → Step old (Saturate level) reply new → (a : ℕ → Bool) → IsModelNow old a → IsModelNow new a
+  pub rules_out_none : (old new : Store N S) (level : ℕ) (reply : Reply) → Step old (Saturate level) reply new →
+      (a : ℕ → Bool) → IsModelNow old a → IsModelNow new a
   rules_out_none old new level reply step a model = elim (saturate_answered old new level reply step) [
     | inl refused ↦ subst (λ st. IsModelNow st a) (sym refused.1) model
     | inr is ↦ models_kept level old new (saturated_so_far level old new reply is.1) a model
   ]
 
   -- after `Conflict` there was none
-  pub conflict_means_none : (old new : Store N S) (level : ℕ) (reply : Reply) → Step old (Saturate level) reply new → (c : ℕ) → reply ≡ Conflict c
+  pub conflict_means_none : (old new : Store N S) (level : ℕ) (reply : Reply) → Step old (Saturate level) reply new →
+      (c : ℕ) → reply ≡ Conflict c
       → (a : ℕ → Bool) → IsModelNow old a → ⊥
-  conflict_means_none old new level reply step c is a model = elim (saturate_answered old new level (Conflict c) (subst (λ r. Step old (Saturate level) r new) is step)) [
-    | inl refused ↦ (let no : Conflict c ≡ Refused LevelOutOfRange = refused.0 in cc)
-    | inr found ↦ conflict_rules_out new c found.1.1 a (models_kept level old new found.1.0 a model)
-  ]
+  conflict_means_none old new level reply step c is a model =
+      elim (saturate_answered old new level (Conflict c) (subst (λ r. Step old (Saturate level) r new) is step)) [
+        | inl refused ↦ (let no : Conflict c ≡ Refused LevelOutOfRange = refused.0 in cc)
+        | inr found ↦ conflict_rules_out new c found.1.1 a (models_kept level old new found.1.0 a model)
+      ]
 
   -- after `Done` all are settled
   pub done_settles : (old new : Store N S) (level : ℕ) → Step old (Saturate level) Done new → HasSettled new
@@ -304,13 +348,16 @@ module _ {N S : Type 0} where
   ]
 
   -- so no registered clause is falsified
-  pub done_unfalsified : (old new : Store N S) (level : ℕ) → IsSound new → Step old (Saturate level) Done new → falsified_clause new ≡ None
+  pub done_unfalsified : (old new : Store N S) (level : ℕ) → IsSound new → Step old (Saturate level) Done new →
+      falsified_clause new ≡ None
   done_unfalsified old new level sound step = settled_unfalsified new sound (done_settles old new level step)
 
   -- and a Decide isn't answered `Falsified`
-  pub decides_unfalsified : (old new : Store N S) (reply : Reply) → falsified_clause old ≡ None → Step old Decide reply new → (c : ℕ) → reply ≡ Falsified c → ⊥
+  pub decides_unfalsified : (old new : Store N S) (reply : Reply) → falsified_clause old ≡ None →
+      Step old Decide reply new → (c : ℕ) → reply ≡ Falsified c → ⊥
   decides_unfalsified old new reply none step c is =
-      let answer = answered_by_outcome old new Decide (Falsified c) refl (subst (λ r. Step old Decide r new) is step) (λ h. h) in
+      let answer = answered_by_outcome old new Decide (Falsified c) refl (subst (λ r. Step old Decide r new) is step)
+      (λ h. h) in
       by_answer (picked old) (answer.0 ∙ ap (λ f. decision f (picked old)) none)
     where
       by_answer : (o : Option Offer) → Falsified c ≡ decision None o → ⊥
@@ -318,7 +365,8 @@ module _ {N S : Type 0} where
       by_answer (Some o) h = cc
 
   -- where all clauses are settled and no decision is left, what the trail says to be true, all else false, is a model
-  pub no_decision_is_model : (old new : Store N S) → IsSound new → HasSettled old → Step old Decide NoDecision new → All (MayLeaveFalse new) new.clauses
+  pub no_decision_is_model : (old new : Store N S) → IsSound new → HasSettled old → Step old Decide NoDecision new →
+      All (MayLeaveFalse new) new.clauses
       → IsModel new (true_alone (values new))
   no_decision_is_model old new sound settled step may =
       let same : new ≡ old = (answered_by_outcome old new Decide NoDecision refl step (λ h. h)).1 in

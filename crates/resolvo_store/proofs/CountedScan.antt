@@ -1,5 +1,7 @@
 -- The clause that the counters tell is the first falsified one of the scan. N are the names, S the solvables.
-use Rattle.std.proofs.Common.{◌≡◌, ℕ, zero, suc, ◌+◌, ◌<◌, Bool, true, false, not, ◌&&◌, ◌||◌, cond, ltb, eqb, List, [], ◌∷◌, ◌++◌, length, get_or, map, Option, Some, None, option_map, refl, sym, ap, ◌∙◌, subst, arith}
+use Rattle.std.proofs.Common.{◌≡◌, ℕ, zero, suc, ◌+◌, ◌<◌, Bool, true, false, not, ◌&&◌, ◌||◌, cond, ltb, eqb, List}
+use Rattle.std.proofs.Common.{[], ◌∷◌, ◌++◌, length, get_or, map, Option, Some, None, option_map, refl, sym, ap, ◌∙◌}
+use Rattle.std.proofs.Common.{subst, arith}
 use Rattle.std.specs.Prelude.{slice_get, zip, All}
 use Rattle.std.specs.List.{list_all}
 use Rattle.std.specs.Map.{lookup}
@@ -43,7 +45,8 @@ not_less false false lo eo h = refl
 not_after : (a b c d : ℕ) → (ltb c a || (eqb c a && ltb d b)) ≡ false
     → is_after (record { first_of_parent = a; number = b }) (record { first_of_parent = c; number = d }) ≡ false
 not_after a b c d h =
-    not_before_is_after (record { first_of_parent = c; number = d }) (record { first_of_parent = a; number = b }) (not_less (ltb c a) (eqb c a) (ltb d b) (eqb d b) h)
+    not_before_is_after (record { first_of_parent = c; number = d }) (record { first_of_parent = a; number = b })
+    (not_less (ltb c a) (eqb c a) (ltb d b) (eqb d b) h)
 
 -- ---- the clause at a number
 
@@ -69,7 +72,8 @@ module _ (val : Values) where
   rows_false (s ∷ sets) (l ∷ ls) many =
       let rest : length ls ≡ length sets = omega (arith, many) in
       list_all-append (λ row. known_false (val row.variable)) (list_rows s l) (rows sets ls)
-      ∙ (ap (λ b. b && all_false val (rows sets ls)) (list_all-map (λ row. known_false (val row.variable)) (λ x. record { set = s; variable = x }) l)
+      ∙ (ap (λ b. b && all_false val (rows sets ls)) (list_all-map (λ row. known_false (val row.variable))
+      (λ x. record { set = s; variable = x }) l)
       ∙ ap (λ b. list_all (λ v. known_false (val v)) l && b) (rows_false sets ls rest))
 
 and_grouped : (a b c : Bool) → ((a && b) && c) ≡ (a && (b && c))
@@ -80,7 +84,8 @@ lists_same : {A : Type 0} (o : Option (Vec (Vec ℕ A) A)) → lists_found o ≡
 lists_same None = refl
 lists_same (Some lists) = refl
 
-module _ {N S A : Type 0} (universe : Universe N S) (loaded : List (Requirement × Vec (Vec ℕ A) A)) (ds : List (Disjunction A)) (val : Values)
+module _ {N S A : Type 0} (universe : Universe N S) (loaded : List (Requirement × Vec (Vec ℕ A) A))
+    (ds : List (Disjunction A)) (val : Values)
     (requires : List RequiresClause) (walkable : All (CanWalk (references universe loaded ds)) requires) where
   abbrev refs : References N S A
   refs = references universe loaded ds
@@ -92,38 +97,52 @@ module _ {N S A : Type 0} (universe : Universe N S) (loaded : List (Requirement 
   shown = counted loaded ds (placed requires) (is_false_literal val)
 
   -- a clause is falsified for the counters where it is for the scan
-  same_test : (n : ℕ) (c : RequiresClause) → slice_get requires n ≡ Some c → is_counted_falsified shown (demand_of c) ≡ passes c
+  same_test : (n : ℕ) (c : RequiresClause) → slice_get requires n ≡ Some c →
+      is_counted_falsified shown (demand_of c) ≡ passes c
   same_test n c at =
       let p : Bool = known_true (val c.parent) in
       let l : Bool = are_literals_false val (literals_in refs c.condition) in
       let lists = lists_loaded loaded c.requirement in
-      let can : CanWalk refs c = subst (CanWalk refs) (get_or_from_slice_get requires n c c at) (walkable n c (slice_get_within requires n c at)) in
-      let r : list_all (list_all (λ v. known_false (val v))) (lists_found (lookup (same_requirement c.requirement) loaded)) ≡ all_false val (rows_in refs c.requirement) =
+      let can : CanWalk refs c = subst (CanWalk refs) (get_or_from_slice_get requires n c c at)
+      (walkable n c (slice_get_within requires n c at)) in
+      let r : list_all (list_all (λ v. known_false (val v))) (lists_found
+      (lookup (same_requirement c.requirement) loaded)) ≡ all_false val (rows_in refs c.requirement) =
       ap (list_all (list_all (λ v. known_false (val v)))) (lists_same (lookup (same_requirement c.requirement) loaded))
       ∙ sym (rows_false val (sets_of universe c.requirement) lists can.one_a_set) in
-      ap (λ b. (b && l) && list_all (list_all (λ v. known_false (val v))) (lists_found (lookup (same_requirement c.requirement) loaded))) (known_true_is (val c.parent))
-      ∙ (ap (λ b. (p && l) && b) r ∙ (and_grouped p l (all_false val (rows_in refs c.requirement)) ∙ sym (falsified_by val (literals_in refs) (rows_in refs) c)))
+      ap (λ b. (b && l) && list_all (list_all (λ v. known_false (val v)))
+      (lists_found (lookup (same_requirement c.requirement) loaded))) (known_true_is (val c.parent))
+      ∙ (ap (λ b. (p && l) && b) r ∙ (and_grouped p l (all_false val (rows_in refs c.requirement))
+      ∙ sym (falsified_by val (literals_in refs) (rows_in refs) c)))
 
   read_at : (n : ℕ) (c : RequiresClause) → slice_get requires n ≡ Some c → placed_clause shown n ≡ placed_in requires c
-  read_at n c at = get_or-map (placed_in requires) requires n c no_clause (slice_get_within requires n c at) ∙ ap (placed_in requires) (get_or_from_slice_get requires n c c at)
+  read_at n c at = get_or-map (placed_in requires) requires n c no_clause (slice_get_within requires n c at)
+      ∙ ap (placed_in requires) (get_or_from_slice_get requires n c c at)
 
-  test_at : (n : ℕ) (c : RequiresClause) → slice_get requires n ≡ Some c → is_counted_falsified shown (placed_clause shown n).demand ≡ passes c
+  test_at : (n : ℕ) (c : RequiresClause) → slice_get requires n ≡ Some c →
+      is_counted_falsified shown (placed_clause shown n).demand ≡ passes c
   test_at n c at = ap (λ (x : PlacedDemand). is_counted_falsified shown x.demand) (read_at n c at) ∙ same_test n c at
 
   within : (n : ℕ) (c : RequiresClause) → slice_get requires n ≡ Some c → n < length (placed requires)
   within n c at = subst (λ m. n < m) (sym (length-map requires (placed_in requires))) (slice_get_within requires n c at)
 
   -- so what the counters tell is the first of the scan
-  pub first_counted : (answer : Option ℕ) → IsFirstFalsified shown answer → clause_at requires answer ≡ first_falsified val (literals_in refs) (rows_in refs) requires
-  first_counted None first = sym (none_to_pass requires passes (λ n c at. sym (test_at n c at) ∙ first n (within n c at)))
+  pub first_counted : (answer : Option ℕ) → IsFirstFalsified shown answer →
+      clause_at requires answer ≡ first_falsified val (literals_in refs) (rows_in refs) requires
+  first_counted None first = sym (none_to_pass requires passes (λ n c at. sym (test_at n c at)
+      ∙ first n (within n c at)))
   first_counted (Some number) first = found (slice_get requires number) refl
     where
-      found : (o : Option RequiresClause) → slice_get requires number ≡ o → slice_get requires number ≡ first_falsified val (literals_in refs) (rows_in refs) requires
-      found None at = absurd (not_past requires number (subst (λ m. number < m) (length-map requires (placed_in requires)) first.0) at)
+      found : (o : Option RequiresClause) → slice_get requires number ≡ o →
+          slice_get requires number ≡ first_falsified val (literals_in refs) (rows_in refs) requires
+      found None at = absurd (not_past requires number (subst (λ m. number < m)
+          (length-map requires (placed_in requires)) first.0) at)
       found (Some c) at = at ∙ sym (first_to_pass requires passes number c (record {
         at = at;
         passes_itself = sym (test_at number c at) ∙ first.1;
-        least = λ n d is held. not_after (position_at requires number c).first_of_parent number (position_at requires n d).first_of_parent n
-            (subst (λ (x : PlacedDemand × PlacedDemand). (ltb x.0.first_of_parent x.1.first_of_parent || (eqb x.0.first_of_parent x.1.first_of_parent && ltb n number)) ≡ false) (λ i. (read_at n d is i, read_at number c at i))
+        least = λ n d is held. not_after (position_at requires number c).first_of_parent number
+            (position_at requires n d).first_of_parent n
+            (subst (λ (x : PlacedDemand × PlacedDemand).
+            (ltb x.0.first_of_parent x.1.first_of_parent || (eqb x.0.first_of_parent x.1.first_of_parent && ltb n
+            number)) ≡ false) (λ i. (read_at n d is i, read_at number c at i))
             (first.2 n (within n d is) (test_at n d is ∙ held)));
       }))

@@ -1,5 +1,6 @@
 -- What is tracked in a sound store forbids two of a name. N are the names, S the solvables.
-use Rattle.std.proofs.Common.{◌≡◌, ℕ, suc, Bool, true, false, cond, not, List, [], ◌∷◌, ◌++◌, length, refl, sym, ap, ◌∙◌, arith}
+use Rattle.std.proofs.Common.{◌≡◌, ℕ, suc, Bool, true, false, cond, not, List, [], ◌∷◌, ◌++◌, length, refl, sym, ap}
+use Rattle.std.proofs.Common.{◌∙◌, arith}
 use Rattle.std.specs.Prelude.{◌||◌, nat_eq, filter, flat_map, if◌then◌else◌}
 use Rattle.std.specs.Bool.{beq}
 use Rattle.std.specs.Cmp.{IsEquivalence}
@@ -48,13 +49,19 @@ module _ {N S : Type 0} (st : Store N S) (named : N → Bool) (a : ℕ → Bool)
   bits_met [] met = tt
   bits_met (Kind.ForbidMultipleInstances x (Pos h) n ∷ cs) met = by_name (named n) (bits_met cs) met
     where
-      by_name : (b : Bool) → (AreMet cs → BitsMet cs) → AllByRecursion (λ c. is_satisfied st a c ≡ true) (cond b (Kind.ForbidMultipleInstances x (Pos h) n ∷ filter (is_forbidding named) cs) (filter (is_forbidding named) cs))
+      by_name : (b : Bool) → (AreMet cs → BitsMet cs) →
+          AllByRecursion (λ c. is_satisfied st a c ≡ true) (cond b
+          (Kind.ForbidMultipleInstances x (Pos h) n ∷ filter (is_forbidding named) cs)
+          (filter (is_forbidding named) cs))
           → one.SatisfiesAll one.is_satisfied a ((if b then (x, h, true) ∷ [] else []) ++ flat_map (bits_of named) cs)
       by_name true later all = (sym (met_true (a x) (a h)) ∙ all.0, later all.1)
       by_name false later all = later all
   bits_met (Kind.ForbidMultipleInstances x (Neg h) n ∷ cs) met = by_name (named n) (bits_met cs) met
     where
-      by_name : (b : Bool) → (AreMet cs → BitsMet cs) → AllByRecursion (λ c. is_satisfied st a c ≡ true) (cond b (Kind.ForbidMultipleInstances x (Neg h) n ∷ filter (is_forbidding named) cs) (filter (is_forbidding named) cs))
+      by_name : (b : Bool) → (AreMet cs → BitsMet cs) →
+          AllByRecursion (λ c. is_satisfied st a c ≡ true) (cond b
+          (Kind.ForbidMultipleInstances x (Neg h) n ∷ filter (is_forbidding named) cs)
+          (filter (is_forbidding named) cs))
           → one.SatisfiesAll one.is_satisfied a ((if b then (x, h, false) ∷ [] else []) ++ flat_map (bits_of named) cs)
       by_name true later all = (sym (met_false (a x) (a h)) ∙ all.0, later all.1)
       by_name false later all = later all
@@ -65,32 +72,41 @@ module _ {N S : Type 0} (st : Store N S) (named : N → Bool) (a : ℕ → Bool)
   clauses_met [] met = tt
   clauses_met (Kind.ForbidMultipleInstances x (Pos h) n ∷ cs) met = by_name (named n) (clauses_met cs) met
     where
-      by_name : (b : Bool) → (BitsMet cs → AreMet cs) → one.SatisfiesAll one.is_satisfied a ((if b then (x, h, true) ∷ [] else []) ++ flat_map (bits_of named) cs)
-          → AllByRecursion (λ c. is_satisfied st a c ≡ true) (cond b (Kind.ForbidMultipleInstances x (Pos h) n ∷ filter (is_forbidding named) cs) (filter (is_forbidding named) cs))
+      by_name : (b : Bool) → (BitsMet cs → AreMet cs) →
+          one.SatisfiesAll one.is_satisfied a ((if b then (x, h, true) ∷ [] else []) ++ flat_map (bits_of named) cs)
+          → AllByRecursion (λ c. is_satisfied st a c ≡ true) (cond b
+          (Kind.ForbidMultipleInstances x (Pos h) n ∷ filter (is_forbidding named) cs)
+          (filter (is_forbidding named) cs))
       by_name true later all = (met_true (a x) (a h) ∙ all.0, later all.1)
       by_name false later all = later all
   clauses_met (Kind.ForbidMultipleInstances x (Neg h) n ∷ cs) met = by_name (named n) (clauses_met cs) met
     where
-      by_name : (b : Bool) → (BitsMet cs → AreMet cs) → one.SatisfiesAll one.is_satisfied a ((if b then (x, h, false) ∷ [] else []) ++ flat_map (bits_of named) cs)
-          → AllByRecursion (λ c. is_satisfied st a c ≡ true) (cond b (Kind.ForbidMultipleInstances x (Neg h) n ∷ filter (is_forbidding named) cs) (filter (is_forbidding named) cs))
+      by_name : (b : Bool) → (BitsMet cs → AreMet cs) →
+          one.SatisfiesAll one.is_satisfied a ((if b then (x, h, false) ∷ [] else []) ++ flat_map (bits_of named) cs)
+          → AllByRecursion (λ c. is_satisfied st a c ≡ true) (cond b
+          (Kind.ForbidMultipleInstances x (Neg h) n ∷ filter (is_forbidding named) cs)
+          (filter (is_forbidding named) cs))
       by_name true later all = (met_false (a x) (a h) ∙ all.0, later all.1)
       by_name false later all = later all
   clauses_met (_ ∷ cs) met = clauses_met cs met
 
 -- each of the clauses is one of a variable and a helper
-one_each : {N : Type 0} (named : N → Bool) (cs : List (Clause N)) → length (filter (is_forbidding named) cs) ≡ length (flat_map (bits_of named) cs)
+one_each : {N : Type 0} (named : N → Bool) (cs : List (Clause N)) →
+    length (filter (is_forbidding named) cs) ≡ length (flat_map (bits_of named) cs)
 one_each named [] = refl
 one_each named (Kind.ForbidMultipleInstances x (Pos h) n ∷ cs) = by_name (named n) (one_each named cs)
   where
     by_name : (b : Bool) → length (filter (is_forbidding named) cs) ≡ length (flat_map (bits_of named) cs)
-        → length (cond b (Kind.ForbidMultipleInstances x (Pos h) n ∷ filter (is_forbidding named) cs) (filter (is_forbidding named) cs))
+        → length (cond b (Kind.ForbidMultipleInstances x (Pos h) n ∷ filter (is_forbidding named) cs)
+        (filter (is_forbidding named) cs))
         ≡ length ((if b then (x, h, true) ∷ [] else []) ++ flat_map (bits_of named) cs)
     by_name true e = ap suc e
     by_name false e = e
 one_each named (Kind.ForbidMultipleInstances x (Neg h) n ∷ cs) = by_name (named n) (one_each named cs)
   where
     by_name : (b : Bool) → length (filter (is_forbidding named) cs) ≡ length (flat_map (bits_of named) cs)
-        → length (cond b (Kind.ForbidMultipleInstances x (Neg h) n ∷ filter (is_forbidding named) cs) (filter (is_forbidding named) cs))
+        → length (cond b (Kind.ForbidMultipleInstances x (Neg h) n ∷ filter (is_forbidding named) cs)
+        (filter (is_forbidding named) cs))
         ≡ length ((if b then (x, h, false) ∷ [] else []) ++ flat_map (bits_of named) cs)
     by_name true e = ap suc e
     by_name false e = e

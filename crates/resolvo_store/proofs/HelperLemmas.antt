@@ -21,7 +21,11 @@ module _ {N S : Type 0} (st : Store N S) where
   pub first_of_helper : (origin : HelperOrigin N) → knows_helper st origin ≡ true
       → first_refusal st (Helper origin) ≡ cond (are_variables_out (length st.origins)) (Some IdSpace) None
   first_of_helper origin known =
-      none_yet (not (knows_helper st origin)) UnknownId ((are_variables_out (length st.origins), IdSpace) ∷ []) (ap not known) ∙ ids_alone (are_variables_out (length st.origins))
+      none_yet (not (knows_helper st origin)) UnknownId ((are_variables_out (length st.origins), IdSpace) ∷ [])
+      (ap not known) ∙ ids_alone (are_variables_out (length st.origins))
 
-  pub first_of_unknown_helper : (origin : HelperOrigin N) → knows_helper st origin ≡ false → first_refusal st (Helper origin) ≡ Some UnknownId
-  first_of_unknown_helper origin known = found_first (not (knows_helper st origin)) UnknownId ((are_variables_out (length st.origins), IdSpace) ∷ []) (ap not known)
+  pub first_of_unknown_helper : (origin : HelperOrigin N) → knows_helper st origin ≡ false →
+      first_refusal st (Helper origin) ≡ Some UnknownId
+  first_of_unknown_helper origin known =
+      found_first (not (knows_helper st origin)) UnknownId ((are_variables_out (length st.origins), IdSpace) ∷ [])
+      (ap not known)

@@ -1,5 +1,7 @@
 -- What a store keeps stays in order: what each call on a part of it leaves.
-use Rattle.std.proofs.Common.{◌≡◌, ◌≢◌, ℕ, ◌<◌, ◌≤◌, ◌+◌, ◌-◌, ◌*◌, ◌/◌, ◌^◌, min, cond, true, not, List, [], ◌∷◌, ◌++◌, length, map, take, Option, None, Some, IsSome, Result, Ok, Err, refl, sym, subst, ap, ◌∙◌, ◌⊎◌, inl, inr}
+use Rattle.std.proofs.Common.{◌≡◌, ◌≢◌, ℕ, ◌<◌, ◌≤◌, ◌+◌, ◌-◌, ◌*◌, ◌/◌, ◌^◌, min, cond, true, not, List, [], ◌∷◌}
+use Rattle.std.proofs.Common.{◌++◌, length, map, take, Option, None, Some, IsSome, Result, Ok, Err, refl, sym, subst}
+use Rattle.std.proofs.Common.{ap, ◌∙◌, ◌⊎◌, inl, inr}
 use Rattle.std.specs.Prelude.{Bool, false, nat_eq, nat_lt, flat_map, All, IfSome, IsTrue, OnOk, OnErr}
 use Rattle.typed_ids.specs.TotalMaps.{IsUpdate, SameValues}
 use Rattle.std.specs.List.{list_all}
@@ -24,22 +26,27 @@ use Rattle.clauses.specs.declared.clause.Clause.{Clause}
 use Rattle.clauses.specs.declared.clause.Clause.TheVariants as Kind
 use Rattle.clauses.specs.Clauses.{first_watches}
 use Rattle.watch_map.specs.Watching.{is_literal_in}
-use Rattle.watch_map.specs.ClauseList.{Clauses, two_or_none, can_rewatch, with_clause as list_added, with_learnt as learnt_one, with_rewatched as list_rewatched, with_forbidden}
+use Rattle.watch_map.specs.ClauseList.{Clauses, two_or_none, can_rewatch, with_clause as list_added}
+use Rattle.watch_map.specs.ClauseList.{with_learnt as learnt_one, with_rewatched as list_rewatched, with_forbidden}
 use Rattle.clauses.specs.declared.disjunction.Disjunction.{Disjunction}
 use Rattle.resolvo_queue.specs.declared.requires_clause.RequiresClause.{RequiresClause}
-use Rattle.resolvo_queue.specs.Queue.{Queue, IsNew, SameClauses, SameSync, IsUnchanged, IsRegistered, HasTrail, OnlyHotScore, StandsOn}
+use Rattle.resolvo_queue.specs.Queue.{Queue, IsNew, SameClauses, SameSync, IsUnchanged, IsRegistered, HasTrail}
+use Rattle.resolvo_queue.specs.Queue.{OnlyHotScore, StandsOn}
 use Rattle.resolvo_queue.specs.References.{References, references}
 use Rattle.resolvo_queue.proofs.Clauses.Callers.{stands_with_disjunction, stands_with_lists}
 use Rattle.resolvo_store.specs.Lists.{lists_of_loaded, stored_disjunctions, AreQueried, IsConsistent, IsOneMore}
 use Rattle.resolvo_store.specs.Synced.{decisions_of, IsInStep, MayDecide}
-use Rattle.resolvo_store.proofs.SyncedLemmas.{in_step-new, in_step-pushed, in_step-same, in_step-unchanged, in_step-registered, in_step-synced, in_step-refused}
+use Rattle.resolvo_store.proofs.SyncedLemmas.{in_step-new, in_step-pushed, in_step-same, in_step-unchanged}
+use Rattle.resolvo_store.proofs.SyncedLemmas.{in_step-registered, in_step-synced, in_step-refused}
 use Rattle.resolvo_store.specs.Sound.{IsSound, IsPlain}
-use Rattle.resolvo_store.specs.Store.{Store, Provider, StoreState, store_of, values, lists_of, stored_of, clause_literals, watched_by}
+use Rattle.resolvo_store.specs.Store.{Store, Provider, StoreState, store_of, values, lists_of, stored_of}
+use Rattle.resolvo_store.specs.Store.{clause_literals, watched_by}
 use Rattle.at_most_once.specs.AtMostOne.{Tracker, BitClause, is_tracked}
 use Rattle.at_most_once.specs.NameTrackers.{with_tracked as trackers_with}
 use Rattle.id_maps.specs.Scores.{bumped, decayed}
 use Rattle.resolvo_store.specs.Tracking.{forbidding, origins_with, is_helper_among}
-use Rattle.resolvo_store.specs.Outcome.{adds_clause, with_clause, with_learnt, helper_for, tracking, with_bits, with_tracked, with_bumped}
+use Rattle.resolvo_store.specs.Outcome.{adds_clause, with_clause, with_learnt, helper_for, tracking, with_bits}
+use Rattle.resolvo_store.specs.Outcome.{with_tracked, with_bumped}
 use Rattle.resolvo_store.proofs.TrackedLaws.{IsSound-tracked}
 use Rattle.resolvo_store.proofs.AddingLemmas.{both, failed, learnt_watches}
 use Rattle.resolvo_store.proofs.ListLemmas.{items_of, lookup-none, insert-kept, few-more, length-mapped}
@@ -48,7 +55,9 @@ use Rattle.solver_cache.specs.Questions.{IsLater}
 use Rattle.solver_cache.proofs.CacheLemmas.{asked_later}
 use Rattle.resolvo_store.specs.Adding.{is_direct, names_known}
 use Rattle.resolvo_store.proofs.KnownLemmas.{IsKnownSolvable, IsLawful, known_direct, literals_below}
-use Rattle.resolvo_store.proofs.SoundLaws.{IsSound-scored, IsSound-pushed, IsSound-added, IsSound-disjunction, IsSound-learnt, IsSound-requires, IsSound-rewatched, IsSound-with_variables, IsSound-interned}
+use Rattle.resolvo_store.proofs.SoundLaws.{IsSound-scored, IsSound-pushed, IsSound-added, IsSound-disjunction}
+use Rattle.resolvo_store.proofs.SoundLaws.{IsSound-learnt, IsSound-requires, IsSound-rewatched}
+use Rattle.resolvo_store.proofs.SoundLaws.{IsSound-with_variables, IsSound-interned}
 
 -- what comes of success, or of failure
 pub either : {T E P Q : Type 0} (result : Result T E) → OnOk result P → OnErr result Q → P ⊎ Q
@@ -65,7 +74,8 @@ on_err (Ok x) more p = p
 on_err (Err e) more p = more p
 
 -- an entry was added to the trail, or the trail stays
-added_or_same : (known : Option Bool) (old new : Trail) (e : Entry) (answer : Result Bool AddFault) → AddsEntry known old e answer new
+added_or_same : (known : Option Bool) (old new : Trail) (e : Entry) (answer : Result Bool AddFault) →
+    AddsEntry known old e answer new
     → ((known ≡ None) × (new ≡ pushed old e)) ⊎ (new ≡ old)
 added_or_same (Some b) old new e answer h = inr h.1
 added_or_same None old new e (Ok added) h = inl (refl, h.1)
@@ -80,7 +90,8 @@ abbrev pub with_list : {N S : Type 0} → Store N S → Clauses N → Store N S
 with_list st cs = record st { clauses = cs.clauses; watches = cs.watches; learnt = cs.learnt; watchers = cs.watchers }
 
 -- clauses that the list adds under a name are those that the store adds
-pub forbidden_bits : {N S : Type 0} (name : N) (st : Store N S) (cs : List (BitClause ℕ)) → with_list st (with_forbidden name (list_of st) cs) ≡ with_bits name st cs
+pub forbidden_bits : {N S : Type 0} (name : N) (st : Store N S) (cs : List (BitClause ℕ)) →
+    with_list st (with_forbidden name (list_of st) cs) ≡ with_bits name st cs
 forbidden_bits name st [] = refl
 forbidden_bits name st (c ∷ cs) = forbidden_bits name (adds_clause st (forbidding name c)).store cs
 
@@ -98,53 +109,82 @@ plain_direct (Kind.ForbidMultipleInstances a l n) direct = absurd (let no : fals
 plain_direct (Kind.Learnt id) direct = absurd (let no : false ≡ true = direct in cc)
 
 -- a new queue, without clauses, may be asked
-pub new_may_ask : {N S A Q : Type 0} {has : Q → N → Bool} (queue : Queue N Q) (refs : References N S A) (trail : Trail) → IsNew has queue → ((any : References N S A) → StandsOn any queue)
+pub new_may_ask : {N S A Q : Type 0} {has : Q → N → Bool} (queue : Queue N Q) (refs : References N S A)
+    (trail : Trail) → IsNew has queue → ((any : References N S A) → StandsOn any queue)
     → trail.floor ≡ 0 → MayDecide has (λ n. 0) refs (record queue { clauses = [] }) trail
 new_may_ask {has = has} queue refs trail is stands first =
     subst (λ cs. MayDecide has (λ n. 0) refs (record queue { clauses = cs }) trail) is.clauses (record {
       in_step = in_step-new {has = has} trail first is;
       stands = stands refs;
-      named = is.names ∙ sym (ap (map (λ c. map refs.universe.set_name (sets_of refs.universe c.requirement))) is.clauses);
+      named = is.names ∙ sym (ap (map (λ c. map refs.universe.set_name (sets_of refs.universe c.requirement)))
+          is.clauses);
       hot = λ n cold. refl;
     })
 
 -- a store that tracks one variable more, by its variables, its list of clauses and its trackers
-pub tracked_parts : {N S : Type 0} (st : Store N S) (name : N) (v : ℕ) {os : List (VariableOrigin N S)} {cs : Clauses N} {ts : N → Tracker ℕ}
-    → os ≡ origins_with st.origins name (helper_for st name v) → cs ≡ with_forbidden name (list_of st) (tracking st name v)
-    → ts ≡ trackers_with st.provider.same_name name v (helper_for st name v) st.trackers → record (with_list st cs) { origins = os; trackers = ts } ≡ with_tracked st name v
+pub tracked_parts : {N S : Type 0} (st : Store N S) (name : N)
+    (v : ℕ) {os : List (VariableOrigin N S)} {cs : Clauses N} {ts : N → Tracker ℕ}
+    → os ≡ origins_with st.origins name (helper_for st name v) →
+    cs ≡ with_forbidden name (list_of st) (tracking st name v)
+    → ts ≡ trackers_with st.provider.same_name name v (helper_for st name v) st.trackers →
+    record (with_list st cs) { origins = os; trackers = ts } ≡ with_tracked st name v
 tracked_parts st name v {os} {cs} {ts} origins clauses trackers =
     ap (λ o. record (with_list st cs) { origins = o; trackers = ts }) origins
-    ∙ ap (λ c. record (with_list st c) { origins = origins_with st.origins name (helper_for st name v); trackers = ts }) clauses
-    ∙ ap (λ t. record (with_list st (with_forbidden name (list_of st) (tracking st name v))) { origins = origins_with st.origins name (helper_for st name v); trackers = t }) trackers
+    ∙ ap (λ c. record (with_list st c) {
+      origins = origins_with st.origins name (helper_for st name v);
+      trackers =
+          ts;
+    }) clauses
+    ∙ ap (λ t. record (with_list st (with_forbidden name (list_of st) (tracking st name v))) {
+      origins =
+          origins_with st.origins name (helper_for st name v);
+      trackers = t;
+    }) trackers
     ∙ forbidden_bits name (record st {
       origins = origins_with st.origins name (helper_for st name v);
       trackers = trackers_with st.provider.same_name name v (helper_for st name v) st.trackers;
     }) (tracking st name v)
 
 -- or is as it was
-pub tracked_or_same : {N S T E : Type 0} (st : Store N S) (name : N) (v : ℕ) (os : List (VariableOrigin N S)) (cs : Clauses N) (ts : N → Tracker ℕ) (result : Result T E)
-    → OnOk result (os ≡ origins_with st.origins name (helper_for st name v)) → OnOk result (cs ≡ with_forbidden name (list_of st) (tracking st name v))
+pub tracked_or_same : {N S T E : Type 0} (st : Store N S) (name : N) (v : ℕ) (os : List (VariableOrigin N S))
+    (cs : Clauses N) (ts : N → Tracker ℕ) (result : Result T E)
+    → OnOk result (os ≡ origins_with st.origins name (helper_for st name v)) →
+    OnOk result (cs ≡ with_forbidden name (list_of st) (tracking st name v))
     → OnOk result (ts ≡ trackers_with st.provider.same_name name v (helper_for st name v) st.trackers)
     → OnErr result (os ≡ st.origins) → OnErr result (cs ≡ list_of st) → OnErr result (ts ≡ st.trackers)
-    → OnOk result (record (with_list st cs) { origins = os; trackers = ts } ≡ with_tracked st name v) × OnErr result (record (with_list st cs) { origins = os; trackers = ts } ≡ st)
-tracked_or_same st name v os cs ts (Ok x) origins clauses trackers same_origins same_clauses same_trackers = (tracked_parts st name v origins clauses trackers, tt)
+    → OnOk result (record (with_list st cs) { origins = os; trackers = ts } ≡ with_tracked st name v)
+    × OnErr result (record (with_list st cs) { origins = os; trackers = ts } ≡ st)
+tracked_or_same st name v os cs ts (Ok x) origins clauses trackers same_origins same_clauses same_trackers =
+    (tracked_parts st name v origins clauses trackers, tt)
 tracked_or_same st name v os cs ts (Err e) origins clauses trackers same_origins same_clauses same_trackers = (
   tt,
-  ap (λ o. record (with_list st cs) { origins = o; trackers = ts }) same_origins ∙ ap (λ c. record (with_list st c) { trackers = ts }) same_clauses
+  ap (λ o. record (with_list st cs) { origins = o; trackers = ts }) same_origins
+      ∙ ap (λ c. record (with_list st c) { trackers = ts }) same_clauses
       ∙ ap (λ t. record st { trackers = t }) same_trackers,
 )
 
 -- a store in which a score was to be raised, by its scores and its requires clauses
-pub bumped_or_same : {N S T E : Type 0} (st : Store N S) (name : N) (amount : ℕ) (scores : N → ℕ) {before requires : List RequiresClause} (result : Result T E)
-    → st.requires ≡ before → requires ≡ before → OnOk result (scores ≡ bumped st.provider.same_name name amount st.scores) → OnErr result (scores ≡ st.scores)
-    → OnOk result (record st { scores = scores; requires = requires } ≡ with_bumped st name amount) × OnErr result (record st { scores = scores; requires = requires } ≡ st)
-bumped_or_same st name amount scores {before} {requires} (Ok x) now same raised left =
-    (ap (λ s. record st { scores = s; requires = requires }) raised ∙ ap (λ rs. record (with_bumped st name amount) { requires = rs }) (same ∙ sym now), tt)
-bumped_or_same st name amount scores {before} {requires} (Err e) now same raised left =
-    (tt, ap (λ s. record st { scores = s; requires = requires }) left ∙ ap (λ rs. record st { requires = rs }) (same ∙ sym now))
+pub bumped_or_same : {N S T E : Type 0} (st : Store N S) (name : N) (amount : ℕ) (scores : N →
+    ℕ) {before requires : List RequiresClause} (result : Result T E)
+    → st.requires ≡ before → requires ≡ before →
+    OnOk result (scores ≡ bumped st.provider.same_name name amount st.scores) → OnErr result (scores ≡ st.scores)
+    → OnOk result (record st { scores = scores; requires = requires } ≡ with_bumped st name amount)
+    × OnErr result (record st { scores = scores; requires = requires } ≡ st)
+bumped_or_same st name amount scores {before} {requires} (Ok x) now same raised left = (
+  ap (λ s. record st { scores = s; requires = requires }) raised
+      ∙ ap (λ rs. record (with_bumped st name amount) { requires = rs }) (same ∙ sym now),
+  tt,
+)
+bumped_or_same st name amount scores {before} {requires} (Err e) now same raised left = (
+  tt,
+  ap (λ s. record st { scores = s; requires = requires }) left
+      ∙ ap (λ rs. record st { requires = rs }) (same ∙ sym now),
+)
 
-module _ {D N S A H Q : Type 0} {has : Q → N → Bool} {st : Store N S} {loaded : List (Requirement × Vec (Vec ℕ A) A)} {disjunctions : List (Disjunction A)}
-    {cache : Cache D N S A H} {queue : Queue N Q} {trail : Trail} (is : IsConsistent has st loaded disjunctions cache queue trail) where
+module _ {D N S A H Q : Type 0} {has : Q → N → Bool} {st : Store N S} {loaded : List (Requirement × Vec (Vec ℕ A) A)}
+    {disjunctions : List (Disjunction A)}
+    {cache : Cache D N S A H} {queue : Queue N Q} {trail : Trail}
+    (is : IsConsistent has st loaded disjunctions cache queue trail) where
   -- a store of which no more is seen by its trail
   abbrev with_trail : Trail → Store N S
   with_trail t = record st { trail = t.entries; place = t.place }
@@ -163,24 +203,34 @@ module _ {D N S A H Q : Type 0} {has : Q → N → Bool} {st : Store N S} {loade
     known = is.known;
     sound = sound;
     queried = is.queried;
-    may_decide = record { in_step = in_step; stands = is.may_decide.stands; named = is.may_decide.named; hot = is.may_decide.hot };
+    may_decide = record {
+      in_step = in_step;
+      stands = is.may_decide.stands;
+      named = is.may_decide.named;
+      hot =
+          is.may_decide.hot;
+    };
   })
 
   -- after an assignment
-  pub after_entry : (e : Entry) (new : Trail) (answer : Result Bool AddFault) → e.decision.variable < length st.origins → e.decision.derived_from < length st.clauses
-      → (1 ≤ e.level) × (e.level < 2 ^ 31) → trail.entries ≡ st.trail → trail.place ≡ st.place → AddsEntry (val st.trail e.decision.variable) trail e answer new
+  pub after_entry : (e : Entry) (new : Trail) (answer : Result Bool AddFault) →
+      e.decision.variable < length st.origins → e.decision.derived_from < length st.clauses
+      → (1 ≤ e.level) × (e.level < 2 ^ 31) → trail.entries ≡ st.trail → trail.place ≡ st.place →
+      AddsEntry (val st.trail e.decision.variable) trail e answer new
       → Consistent new
   after_entry e new answer variable clause level entries place adds =
       let sound : IsSound (with_trail trail) = rw (entries, place) is.sound in
       elim (added_or_same (val st.trail e.decision.variable) trail new e answer adds) [
         | inl more ↦ after_trail (pushed trail e)
-            (rw (entries, place) (IsSound-pushed st is.sound e more.0 (record { variable = variable; clause = clause }) level)) (in_step-pushed trail e is.may_decide.in_step)
+            (rw (entries, place) (IsSound-pushed st is.sound e more.0
+            (record { variable = variable; clause = clause }) level)) (in_step-pushed trail e is.may_decide.in_step)
             more.1
         | inr same ↦ after_trail trail sound is.may_decide.in_step same
       ]
 
   -- after variables were asked for
-  pub after_origins : {T E : Type 0} (more : List (VariableOrigin N S)) {os : List (VariableOrigin N S)} (result : Result T E)
+  pub after_origins : {T E : Type 0} (more : List (VariableOrigin N S)) {os : List (VariableOrigin N S)}
+      (result : Result T E)
       → IsSound (record st { origins = more }) → OnOk result (os ≡ more) → OnErr result (os ≡ st.origins)
       → IsConsistent has (record st { origins = os }) loaded disjunctions cache queue trail
   after_origins more {os} result longer ok err = record {
@@ -203,7 +253,8 @@ module _ {D N S A H Q : Type 0} {has : Q → N → Bool} {st : Store N S} {loade
 
   -- after the list was asked to change
   after_change : {T E : Type 0} (more : Clauses N) {cs : Clauses N} (result : Result T E) → IsSound (with_clauses more)
-      → OnOk result (cs ≡ more) → OnErr result (cs ≡ clauses_now) → IsConsistent has (with_clauses cs) loaded disjunctions cache queue trail
+      → OnOk result (cs ≡ more) → OnErr result (cs ≡ clauses_now) →
+      IsConsistent has (with_clauses cs) loaded disjunctions cache queue trail
   after_change more {cs} result changed ok err = record {
     few = is.few;
     known = is.known;
@@ -217,68 +268,100 @@ module _ {D N S A H Q : Type 0} {has : Q → N → Bool} {st : Store N S} {loade
 
   -- after a clause was to be added that its command names whole
   pub after_direct : {T E : Type 0} (c : Clause N) (watch : Option (List Lit)) {cs : Clauses N} (result : Result T E)
-      → is_direct c ≡ true → names_known st.provider.universe (length st.origins) c ≡ true → watch ≡ first_watches (stored_of st) (values st) c
-      → OnOk result (cs ≡ list_added clauses_now c watch) → OnErr result (cs ≡ clauses_now) → IsConsistent has (with_clauses cs) loaded disjunctions cache queue trail
+      → is_direct c ≡ true → names_known st.provider.universe (length st.origins) c ≡ true →
+      watch ≡ first_watches (stored_of st) (values st) c
+      → OnOk result (cs ≡ list_added clauses_now c watch) → OnErr result (cs ≡ clauses_now) →
+      IsConsistent has (with_clauses cs) loaded disjunctions cache queue trail
   after_direct c watch result direct known watches ok err =
       after_change (list_added clauses_now c watch) result
       (subst (λ w. IsSound (with_clauses (list_added clauses_now c w))) (sym watches)
-      (IsSound-added st is.sound c (known_direct st.provider.universe st.origins is.sound.origins_known c known) (plain_direct c direct))) ok err
+      (IsSound-added st is.sound c (known_direct st.provider.universe st.origins is.sound.origins_known c known)
+      (plain_direct c direct))) ok err
 
   -- after one was to be learnt
-  pub after_learnt : {T E : Type 0} (ls : List Lit) {cs : Clauses N} (result : Result T E) → list_all (λ l. nat_lt (variable_of l) (length st.origins)) ls ≡ true
-      → OnOk result (cs ≡ learnt_one clauses_now ls) → OnErr result (cs ≡ clauses_now) → IsConsistent has (with_clauses cs) loaded disjunctions cache queue trail
+  pub after_learnt : {T E : Type 0} (ls : List Lit) {cs : Clauses N} (result : Result T E) →
+      list_all (λ l. nat_lt (variable_of l) (length st.origins)) ls ≡ true
+      → OnOk result (cs ≡ learnt_one clauses_now ls) → OnErr result (cs ≡ clauses_now) →
+      IsConsistent has (with_clauses cs) loaded disjunctions cache queue trail
   after_learnt ls result known ok err =
       after_change (learnt_one clauses_now ls) result
-      (subst (λ w. IsSound (with_clause (with_learnt st ls) (Kind.Learnt (length st.learnt)) (two_or_none w))) (sym (learnt_watches st ls)) (IsSound-learnt st is.sound ls (literals_below (length st.origins) ls known))) ok err
+      (subst (λ w. IsSound (with_clause (with_learnt st ls) (Kind.Learnt (length st.learnt)) (two_or_none w)))
+      (sym (learnt_watches st ls)) (IsSound-learnt st is.sound ls (literals_below (length st.origins) ls known)))
+      ok err
 
   -- after a variable was to be tracked
-  pub after_tracked : {T E : Type 0} (name : N) (v : ℕ) {os : List (VariableOrigin N S)} {cs : Clauses N} {ts : N → Tracker ℕ} (result : Result T E) → IsLawful st.provider
-      → st.provider.universe.knows_name name ≡ true → v < length st.origins → is_helper_among st.origins v ≡ false → is_tracked nat_eq (st.trackers name) v ≡ false
-      → OnOk result (os ≡ origins_with st.origins name (helper_for st name v)) → OnOk result (cs ≡ with_forbidden name clauses_now (tracking st name v))
+  pub after_tracked : {T E : Type 0} (name : N) (v : ℕ) {os : List (VariableOrigin N S)} {cs : Clauses N} {ts : N →
+      Tracker ℕ} (result : Result T E) → IsLawful st.provider
+      → st.provider.universe.knows_name name ≡ true → v < length st.origins → is_helper_among st.origins v ≡ false →
+      is_tracked nat_eq (st.trackers name) v ≡ false
+      → OnOk result (os ≡ origins_with st.origins name (helper_for st name v)) →
+      OnOk result (cs ≡ with_forbidden name clauses_now (tracking st name v))
       → OnOk result (ts ≡ trackers_with st.provider.same_name name v (helper_for st name v) st.trackers)
       → OnErr result (os ≡ st.origins) → OnErr result (cs ≡ clauses_now) → OnErr result (ts ≡ st.trackers)
-      → IsConsistent has (record (with_clauses cs) { origins = os; trackers = ts }) loaded disjunctions cache queue trail
-  after_tracked name v {os} {cs} {ts} (Ok x) lawful named known none new origins clauses trackers same_origins same_clauses same_trackers = record {
-    few = is.few;
-    known = is.known;
-    queried = is.queried;
-    may_decide = is.may_decide;
-    sound = subst (λ s. IsSound s) (sym (tracked_parts st name v origins clauses trackers)) (IsSound-tracked st is.sound lawful name v named known none new);
-  }
-  after_tracked name v {os} {cs} {ts} (Err e) lawful named known none new origins clauses trackers same_origins same_clauses same_trackers =
-      subst (λ o. IsConsistent has (record (with_clauses cs) { origins = o; trackers = ts }) loaded disjunctions cache queue trail) (sym same_origins)
-      (subst (λ c. IsConsistent has (record (with_clauses c) { trackers = ts }) loaded disjunctions cache queue trail) (sym same_clauses)
-      (subst (λ t. IsConsistent has (record st { trackers = t }) loaded disjunctions cache queue trail) (sym same_trackers) is))
+      → IsConsistent has (record (with_clauses cs) { origins = os; trackers = ts }) loaded disjunctions cache queue
+      trail
+  after_tracked name v {os} {cs} {ts} (Ok x) lawful named known none new origins clauses trackers same_origins
+      same_clauses same_trackers = record {
+        few = is.few;
+        known = is.known;
+        queried = is.queried;
+        may_decide = is.may_decide;
+        sound = subst (λ s. IsSound s) (sym (tracked_parts st name v origins clauses trackers))
+            (IsSound-tracked st is.sound lawful name v named known none new);
+      }
+  after_tracked name v {os} {cs} {ts} (Err e) lawful named known none new origins clauses trackers same_origins
+      same_clauses same_trackers =
+      subst (λ o. IsConsistent has (record (with_clauses cs) { origins = o; trackers = ts }) loaded disjunctions
+      cache queue trail) (sym same_origins)
+      (subst (λ c. IsConsistent has (record (with_clauses c) { trackers = ts }) loaded disjunctions cache queue
+      trail) (sym same_clauses)
+      (subst (λ t. IsConsistent has (record st { trackers = t }) loaded disjunctions cache queue trail)
+      (sym same_trackers) is))
 
   -- after a disjunction was to be kept
-  pub after_disjunction : {T E : Type 0} (ls : List Lit) (condition : ℕ) {ds : List (Disjunction A)} (result : Result T E)
-      → st.disjunctions ≡ stored_disjunctions disjunctions → list_all (λ l. nat_lt (variable_of l) (length st.origins)) ls ≡ true → OnOk result (IsOneMore disjunctions ds)
-      → OnOk result (stored_disjunctions ds ≡ stored_disjunctions disjunctions ++ record { literals = ls; condition = condition } ∷ []) → OnErr result (ds ≡ disjunctions)
+  pub after_disjunction : {T E : Type 0} (ls : List Lit) (condition : ℕ) {ds : List (Disjunction A)}
+      (result : Result T E)
+      → st.disjunctions ≡ stored_disjunctions disjunctions →
+      list_all (λ l. nat_lt (variable_of l) (length st.origins)) ls ≡ true → OnOk result (IsOneMore disjunctions ds)
+      → OnOk result (stored_disjunctions ds ≡ stored_disjunctions disjunctions ++ record {
+        literals = ls;
+        condition =
+            condition;
+      } ∷ []) → OnErr result (ds ≡ disjunctions)
       → IsConsistent has (record st { disjunctions = stored_disjunctions ds }) loaded ds cache queue trail
   after_disjunction ls condition {ds} (Err e) kept known more ok same =
-      subst (λ es. IsConsistent has (record st { disjunctions = stored_disjunctions es }) loaded es cache queue trail) (sym same) (rw (← kept) is)
+      subst (λ es. IsConsistent has (record st { disjunctions = stored_disjunctions es }) loaded es cache queue
+      trail) (sym same) (rw (← kept) is)
   after_disjunction ls condition {ds} (Ok x) kept known more ok same = record {
     few = is.few;
     known = is.known;
     queried = is.queried;
-    sound = subst (λ es. IsSound (record st { disjunctions = es })) (ap (λ es. es ++ record { literals = ls; condition = condition } ∷ []) kept ∙ sym ok)
+    sound = subst (λ es. IsSound (record st { disjunctions = es }))
+        (ap (λ es. es ++ record { literals = ls; condition = condition } ∷ []) kept ∙ sym ok)
         (IsSound-disjunction st is.sound ls condition (literals_below (length st.origins) ls known));
-    may_decide = subst (λ es. MayDecide has st.scores (references st.provider.universe loaded es) queue trail) (sym more.grown) (record {
-      in_step = is.may_decide.in_step;
-      stands = stands_with_disjunction (references st.provider.universe loaded disjunctions) queue more.disjunction is.may_decide.stands;
-      named = is.may_decide.named;
-      hot = is.may_decide.hot;
-    });
+    may_decide = subst (λ es. MayDecide has st.scores (references st.provider.universe loaded es) queue trail)
+        (sym more.grown) (record {
+          in_step = is.may_decide.in_step;
+          stands = stands_with_disjunction (references st.provider.universe loaded disjunctions) queue more.disjunction
+              is.may_decide.stands;
+          named = is.may_decide.named;
+          hot = is.may_decide.hot;
+        });
   }
 
   -- after a watch was to be moved
-  pub after_rewatch : {T E : Type 0} (c : ℕ) (from to : Lit) {cs : Clauses N} (result : Result T E) → is_literal_in to (clause_literals st c) ≡ true
-      → OnOk result (IsTrue (can_rewatch clauses_now c from to)) → OnOk result (cs ≡ list_rewatched clauses_now c from to) → OnErr result (cs ≡ clauses_now)
+  pub after_rewatch : {T E : Type 0} (c : ℕ) (from to : Lit) {cs : Clauses N} (result : Result T E) →
+      is_literal_in to (clause_literals st c) ≡ true
+      → OnOk result (IsTrue (can_rewatch clauses_now c from to)) →
+      OnOk result (cs ≡ list_rewatched clauses_now c from to) → OnErr result (cs ≡ clauses_now)
       → IsConsistent has (with_clauses cs) loaded disjunctions cache queue trail
   after_rewatch {T = T} {E = E} c from to {cs} (Ok x) has can ok err =
       let tests = both (is_literal_in from (watched_by st c)) (not (is_literal_in to (watched_by st c))) can in
-      after_change {T = T} {E = E} (list_rewatched clauses_now c from to) {cs = cs} (Ok x) (IsSound-rewatched st is.sound c from to tests.0 (failed (is_literal_in to (watched_by st c)) tests.1) has) ok err
-  after_rewatch {T = T} {E = E} c from to {cs} (Err e) has can ok err = after_change {T = T} {E = E} clauses_now {cs = cs} (Err e) is.sound ok err
+      after_change {T = T} {E = E} (list_rewatched clauses_now c from to) {cs =
+      cs} (Ok x) (IsSound-rewatched st is.sound c from to tests.0
+      (failed (is_literal_in to (watched_by st c)) tests.1) has) ok err
+  after_rewatch {T = T} {E = E} c from to {cs} (Err e) has can ok err =
+      after_change {T = T} {E = E} clauses_now {cs = cs} (Err e) is.sound ok err
 
   -- a queue that is unchanged may be asked
   abbrev MayAskStill : Queue N Q → Type 0
@@ -288,77 +371,123 @@ module _ {D N S A H Q : Type 0} {has : Q → N → Bool} {st : Store N S} {loade
   may_ask_unchanged {q} same stands = record {
     in_step = in_step-unchanged {has = has} trail same is.may_decide.in_step;
     stands = stands;
-    named = same.clauses.names ∙ is.may_decide.named ∙ ap (map (λ c. map st.provider.universe.set_name (sets_of st.provider.universe c.requirement))) (sym same.clauses.clauses);
+    named = same.clauses.names ∙ is.may_decide.named
+        ∙ ap (map (λ c. map st.provider.universe.set_name (sets_of st.provider.universe c.requirement)))
+        (sym same.clauses.clauses);
     hot = λ n cold. is.may_decide.hot n (sym (same.hot n) ∙ cold);
   }
 
   -- after the list and the queue were left as they were
-  after_none : {cs : Clauses N} {q : Queue N Q} → cs ≡ clauses_now → st.requires ≡ queue.clauses → IsUnchanged queue q has → StandsOn seen q
+  after_none : {cs : Clauses N} {q : Queue N Q} → cs ≡ clauses_now → st.requires ≡ queue.clauses →
+      IsUnchanged queue q has → StandsOn seen q
       → IsConsistent has (record (with_clauses cs) { requires = q.clauses }) loaded disjunctions cache q trail
   after_none {cs} {q} same registered left stands =
       let requires : q.clauses ≡ st.requires = left.clauses.clauses ∙ sym registered in
-      subst (λ ds. IsConsistent has (record (with_clauses ds) { requires = q.clauses }) loaded disjunctions cache q trail) (sym same)
+      subst (λ ds. IsConsistent has (record (with_clauses ds) { requires = q.clauses }) loaded disjunctions cache q
+      trail) (sym same)
       (subst (λ rs. IsConsistent has (record st { requires = rs }) loaded disjunctions cache q trail) (sym requires)
-      (record { few = is.few; known = is.known; sound = is.sound; queried = is.queried; may_decide = may_ask_unchanged left stands }))
+      (record {
+        few = is.few;
+        known = is.known;
+        sound = is.sound;
+        queried = is.queried;
+        may_decide =
+            may_ask_unchanged left stands;
+      }))
 
   -- after a requires clause was to be added and registered
-  pub after_registered : {T E : Type 0} (parent : ℕ) (disjunction : Option ℕ) (r : Requirement) (c : Clause N) (watch : Option (List Lit)) {cs : Clauses N} {q : Queue N Q}
-      (result : Result T E) → knows_requirement st.provider.universe r ≡ true → parent < length st.origins → IsSome (lists_of st r) → IfSome disjunction (λ d. d < length st.disjunctions)
-      → watch ≡ first_watches (stored_of st) (values st) c → c ≡ Kind.Requires parent disjunction r → st.requires ≡ queue.clauses
+  pub after_registered : {T E : Type 0} (parent : ℕ) (disjunction : Option ℕ) (r : Requirement) (c : Clause N)
+      (watch : Option (List Lit)) {cs : Clauses N} {q : Queue N Q}
+      (result : Result T E) → knows_requirement st.provider.universe r ≡ true → parent < length st.origins →
+      IsSome (lists_of st r) → IfSome disjunction (λ d. d < length st.disjunctions)
+      → watch ≡ first_watches (stored_of st) (values st) c → c ≡ Kind.Requires parent disjunction r →
+      st.requires ≡ queue.clauses
       → StandsOn seen q
       → OnOk result (cs ≡ list_added clauses_now c watch)
-      → OnOk result (IsRegistered has (record { parent = parent; requirement = r; condition = disjunction; clause_id = length st.clauses })
+      → OnOk result (IsRegistered has (record {
+        parent = parent;
+        requirement = r;
+        condition =
+            disjunction;
+        clause_id = length st.clauses;
+      })
       (map st.provider.universe.set_name (sets_of st.provider.universe r)) queue q)
       → OnErr result (cs ≡ clauses_now) → OnErr result (IsUnchanged queue q has)
       → IsConsistent has (record (with_clauses cs) { requires = q.clauses }) loaded disjunctions cache q trail
-  after_registered parent disjunction r c watch {cs} {q} (Ok x) known variable found kept watches kind requires stands added registered unadded unregistered =
-      let one : RequiresClause = record { parent = parent; requirement = r; condition = disjunction; clause_id = length st.clauses } in
+  after_registered parent disjunction r c watch {cs} {q} (Ok x) known variable found kept watches kind requires
+      stands added registered unadded unregistered =
+      let one : RequiresClause = record {
+        parent = parent;
+        requirement = r;
+        condition = disjunction;
+        clause_id =
+            length st.clauses;
+      } in
       let more : List RequiresClause = st.requires ++ one ∷ [] in
-      let names_in : List RequiresClause → List (List N) = map (λ d. map st.provider.universe.set_name (sets_of st.provider.universe d.requirement)) in
+      let names_in : List RequiresClause → List (List N) =
+      map (λ d. map st.provider.universe.set_name (sets_of st.provider.universe d.requirement)) in
       let grown : q.clauses ≡ more = registered.clauses ∙ ap (λ ds. ds ++ one ∷ []) (sym requires) in
-      let After : Clauses N → List RequiresClause → Type 0 = λ ds rs. IsConsistent has (record (with_clauses ds) { requires = rs }) loaded disjunctions cache q trail in
+      let After : Clauses N → List RequiresClause → Type 0 =
+      λ ds rs. IsConsistent has (record (with_clauses ds) { requires = rs }) loaded disjunctions cache q trail in
       subst (λ ds. After ds q.clauses) (sym added) (subst (After (list_added clauses_now c watch)) (sym grown)
       (subst (λ w. After (list_added clauses_now c w) more) (sym watches)
-      (subst (λ d. After (list_added clauses_now d (first_watches (stored_of st) (values st) d)) more) (sym kind) (record {
+      (subst (λ d. After (list_added clauses_now d (first_watches (stored_of st) (values st) d)) more) (sym kind)
+      (record {
         few = is.few;
-        known = All-push (λ d. knows_requirement st.provider.universe d.requirement ≡ true) st.requires one is.known known;
+        known = All-push (λ d. knows_requirement st.provider.universe d.requirement ≡ true) st.requires one is.known
+            known;
         sound = IsSound-requires st is.sound parent disjunction r known variable found kept;
         queried = is.queried;
         may_decide = record {
-          in_step = in_step-registered trail one (map st.provider.universe.set_name (sets_of st.provider.universe r)) registered is.may_decide.in_step;
+          in_step = in_step-registered trail one (map st.provider.universe.set_name (sets_of st.provider.universe r))
+              registered is.may_decide.in_step;
           stands = stands;
-          named = registered.names ∙ ap (λ ns. ns ++ map st.provider.universe.set_name (sets_of st.provider.universe r) ∷ []) is.may_decide.named
-              ∙ sym (map-append (λ d. map st.provider.universe.set_name (sets_of st.provider.universe d.requirement)) queue.clauses (one ∷ [])) ∙ ap names_in (sym registered.clauses);
+          named = registered.names ∙ ap (λ ns. ns ++ map st.provider.universe.set_name
+              (sets_of st.provider.universe r) ∷ []) is.may_decide.named
+              ∙ sym (map-append (λ d. map st.provider.universe.set_name (sets_of st.provider.universe d.requirement))
+              queue.clauses (one ∷ [])) ∙ ap names_in (sym registered.clauses);
           hot = λ n cold. is.may_decide.hot n (sym (registered.hot n) ∙ cold);
         };
       }))))
-  after_registered parent disjunction r c watch (Err e) known variable found kept watches kind requires stands added registered unadded unregistered =
+  after_registered parent disjunction r c watch (Err e) known variable found kept watches kind requires stands added
+      registered unadded unregistered =
       after_none unadded requires unregistered stands
 
   -- after the queue was brought up to date, or not, for which the floor was taken
-  pub after_sync : {T E : Type 0} {q : Queue N Q} (result : Result T E) → st.requires ≡ queue.clauses → SameClauses queue q → SameValues (has queue.hot) (has q.hot)
-      → StandsOn seen q → OnOk result (HasTrail (decisions_of trail.entries) q) → OnErr result (q.must_start_anew ≡ true)
+  pub after_sync : {T E : Type 0} {q : Queue N Q} (result : Result T E) → st.requires ≡ queue.clauses →
+      SameClauses queue q → SameValues (has queue.hot) (has q.hot)
+      → StandsOn seen q → OnOk result (HasTrail (decisions_of trail.entries) q) →
+      OnErr result (q.must_start_anew ≡ true)
       → IsConsistent has (record st { requires = q.clauses }) loaded disjunctions cache q (floor_taken trail)
   after_sync {T = T} {E = E} {q} result requires same hot stands ok err =
-      subst (λ rs. IsConsistent has (record st { requires = rs }) loaded disjunctions cache q (floor_taken trail)) (requires ∙ sym same.clauses) (record {
+      subst (λ rs. IsConsistent has (record st { requires = rs }) loaded disjunctions cache q (floor_taken trail))
+      (requires ∙ sym same.clauses) (record {
         few = is.few;
         known = is.known;
         sound = is.sound;
         queried = is.queried;
         may_decide = record {
-          in_step = elim (either result ok err) [ inl synced ↦ in_step-synced trail synced | inr refused ↦ in_step-refused trail refused ];
+          in_step = elim (either result ok err) [
+            | inl synced ↦ in_step-synced trail synced
+            | inr refused ↦
+                in_step-refused trail refused
+          ];
           stands = stands;
-          named = same.names ∙ is.may_decide.named ∙ ap (map (λ c. map st.provider.universe.set_name (sets_of st.provider.universe c.requirement))) (sym same.clauses);
+          named = same.names ∙ is.may_decide.named
+              ∙ ap (map (λ c. map st.provider.universe.set_name (sets_of st.provider.universe c.requirement)))
+              (sym same.clauses);
           hot = λ n cold. is.may_decide.hot n (sym (hot n) ∙ cold);
         };
       })
 
   -- after scores changed, by the names that the queue knows as hot
-  pub after_scores : (scores : N → ℕ) {q : Queue N Q} → st.requires ≡ queue.clauses → SameClauses queue q → SameSync queue q
+  pub after_scores : (scores : N → ℕ) {q : Queue N Q} → st.requires ≡ queue.clauses → SameClauses queue q →
+      SameSync queue q
       → StandsOn seen q → OnlyHotScore has scores q
       → IsConsistent has (record st { scores = scores; requires = q.clauses }) loaded disjunctions cache q trail
   after_scores scores {q} requires same synced stands hot =
-      subst (λ rs. IsConsistent has (record st { scores = scores; requires = rs }) loaded disjunctions cache q trail) (requires ∙ sym same.clauses)
+      subst (λ rs. IsConsistent has (record st { scores = scores; requires = rs }) loaded disjunctions cache q trail)
+      (requires ∙ sym same.clauses)
       (record {
         few = is.few;
         known = is.known;
@@ -367,7 +496,9 @@ module _ {D N S A H Q : Type 0} {has : Q → N → Bool} {st : Store N S} {loade
         may_decide = record {
           in_step = in_step-same trail synced is.may_decide.in_step;
           stands = stands;
-          named = same.names ∙ is.may_decide.named ∙ ap (map (λ c. map st.provider.universe.set_name (sets_of st.provider.universe c.requirement))) (sym same.clauses);
+          named = same.names ∙ is.may_decide.named
+              ∙ ap (map (λ c. map st.provider.universe.set_name (sets_of st.provider.universe c.requirement)))
+              (sym same.clauses);
           hot = hot;
         };
       })
@@ -376,83 +507,120 @@ module _ {D N S A H Q : Type 0} {has : Q → N → Bool} {st : Store N S} {loade
   pub hot_kept : (q : Queue N Q) → SameValues (has queue.hot) (has q.hot) → OnlyHotScore has st.scores q
   hot_kept q same n cold = is.may_decide.hot n (sym (same n) ∙ cold)
 
-  pub hot_bumped : (same_name : N → N → Bool) (same : (a b : N) → same_name a b ≡ true → a ≡ b) (name : N) (amount : ℕ) (q : Queue N Q)
+  pub hot_bumped : (same_name : N → N → Bool) (same : (a b : N) → same_name a b ≡ true →
+      a ≡ b) (name : N) (amount : ℕ) (q : Queue N Q)
       → IsUpdate (has queue.hot) name true (has q.hot) → OnlyHotScore has (bumped same_name name amount st.scores) q
   hot_bumped same_name same name amount q marked n cold = by_name (same_name n name) refl
     where
       other : n ≢ name
-      other e = (let hot : has q.hot n ≡ true = ap (has q.hot) e ∙ marked.0 in let no : true ≡ false = sym hot ∙ cold in cc)
+      other e = (let hot : has q.hot n ≡ true = ap (has q.hot) e ∙ marked.0 in
+          let no : true ≡ false = sym hot ∙ cold in cc)
 
       by_name : (b : Bool) → same_name n name ≡ b → cond b (min (st.scores n + amount) (2 ^ 64 - 1)) (st.scores n) ≡ 0
       by_name true e = absurd (other (same n name e))
       by_name false e = is.may_decide.hot n (sym (marked.1 n other) ∙ cold)
 
   -- after a score was to be raised
-  pub after_bumped : {T E : Type 0} (same_name : N → N → Bool) (same : (a b : N) → same_name a b ≡ true → a ≡ b) (name : N) (amount : ℕ) {scores : N → ℕ} {q : Queue N Q}
+  pub after_bumped : {T E : Type 0} (same_name : N → N → Bool) (same : (a b : N) → same_name a b ≡ true →
+      a ≡ b) (name : N) (amount : ℕ) {scores : N → ℕ} {q : Queue N Q}
       (result : Result T E) → st.requires ≡ queue.clauses → SameClauses queue q → SameSync queue q → StandsOn seen q
-      → OnOk result (scores ≡ bumped same_name name amount st.scores) → OnOk result (IsUpdate (has queue.hot) name true (has q.hot))
+      → OnOk result (scores ≡ bumped same_name name amount st.scores) →
+      OnOk result (IsUpdate (has queue.hot) name true (has q.hot))
       → OnErr result (scores ≡ st.scores) → OnErr result (SameValues (has queue.hot) (has q.hot))
       → IsConsistent has (record st { scores = scores; requires = q.clauses }) loaded disjunctions cache q trail
   after_bumped same_name same name amount {scores} {q} (Ok x) requires clauses synced stands raised hot left cold =
-      after_scores scores requires clauses synced stands (subst (λ s. OnlyHotScore has s q) (sym raised) (hot_bumped same_name same name amount q hot))
+      after_scores scores requires clauses synced stands (subst (λ s. OnlyHotScore has s q) (sym raised)
+      (hot_bumped same_name same name amount q hot))
   after_bumped same_name same name amount {scores} {q} (Err e) requires clauses synced stands raised hot left cold =
-      after_scores scores requires clauses synced stands (subst (λ s. OnlyHotScore has s q) (sym left) (hot_kept q cold))
+      after_scores scores requires clauses synced stands (subst (λ s. OnlyHotScore has s q) (sym left)
+      (hot_kept q cold))
 
   -- a decay leaves 0 where it is
   pub hot_decayed : (numerator denominator : ℕ) → OnlyHotScore has (decayed numerator denominator st.scores) queue
   hot_decayed numerator denominator n cold =
-      ap (λ s. s * numerator / denominator) (is.may_decide.hot n cold) ∙ ap (λ m. m / denominator) (zero-mul numerator) ∙ zero-div denominator
+      ap (λ s. s * numerator / denominator) (is.may_decide.hot n cold)
+      ∙ ap (λ m. m / denominator) (zero-mul numerator) ∙ zero-div denominator
 
   -- after a decay
   pub after_decayed : (numerator denominator : ℕ) {scores : N → ℕ} → scores ≡ decayed numerator denominator st.scores
       → IsConsistent has (record st { scores = scores }) loaded disjunctions cache queue trail
   after_decayed numerator denominator same =
-      subst (λ s. IsConsistent has (record st { scores = s }) loaded disjunctions cache queue trail) (sym same) (record {
+      subst (λ s. IsConsistent has (record st { scores = s }) loaded disjunctions cache queue trail) (sym same)
+      (record {
         few = is.few;
         known = is.known;
         sound = IsSound-scored st is.sound (decayed numerator denominator st.scores);
         queried = is.queried;
-        may_decide = record { in_step = is.may_decide.in_step; stands = is.may_decide.stands; named = is.may_decide.named; hot = hot_decayed numerator denominator };
+        may_decide = record {
+          in_step = is.may_decide.in_step;
+          stands = is.may_decide.stands;
+          named =
+              is.may_decide.named;
+          hot = hot_decayed numerator denominator;
+        };
       })
 
   -- after the queue was asked
   pub after_question : {q : Queue N Q} → st.requires ≡ queue.clauses → IsUnchanged queue q has → StandsOn seen q
       → IsConsistent has (record st { requires = q.clauses }) loaded disjunctions cache q trail
   after_question {q} requires same stands =
-      subst (λ rs. IsConsistent has (record st { requires = rs }) loaded disjunctions cache q trail) (requires ∙ sym same.clauses.clauses)
-      (record { few = is.few; known = is.known; sound = is.sound; queried = is.queried; may_decide = may_ask_unchanged same stands })
+      subst (λ rs. IsConsistent has (record st { requires = rs }) loaded disjunctions cache q trail) (requires
+      ∙ sym same.clauses.clauses)
+      (record {
+        few = is.few;
+        known = is.known;
+        sound = is.sound;
+        queried = is.queried;
+        may_decide =
+            may_ask_unchanged same stands;
+      })
 
 -- the store of what is kept, with this provider, these variables and these lists
-abbrev pub store_with : {D N S A C : Type 0} → (D → Provider N S) → (C → N → ℕ) → StoreState D N S C → D → List (VariableOrigin N S) → List (Requirement × Vec (Vec ℕ A) A) → Store N S
-store_with provided scored kept provider os loaded = store_of provided scored (record kept { provider = provider; origins = os; loaded = lists_of_loaded loaded })
+abbrev pub store_with : {D N S A C : Type 0} → (D → Provider N S) → (C → N → ℕ) → StoreState D N S C → D →
+    List (VariableOrigin N S) → List (Requirement × Vec (Vec ℕ A) A) → Store N S
+store_with provided scored kept provider os loaded =
+    store_of provided scored (record kept { provider = provider; origins = os; loaded = lists_of_loaded loaded })
 
 -- after a load, of what was kept before it: the provider is the cache's
-module _ {D N S A H Q C : Type 0} (provided : D → Provider N S) (scored : C → N → ℕ) (has : H → S → Bool) (has_name : Q → N → Bool) (kept : StoreState D N S C) (origins : List (VariableOrigin N S))
-    (loaded : List (Requirement × Vec (Vec ℕ A) A)) (disjunctions : List (Disjunction A)) (queue : Queue N Q) (trail : Trail) (old new : Cache D N S A H) (later : IsLater has old new) where
+module _ {D N S A H Q C : Type 0} (provided : D → Provider N S) (scored : C → N → ℕ) (has : H → S →
+    Bool) (has_name : Q → N → Bool) (kept : StoreState D N S C) (origins : List (VariableOrigin N S))
+    (loaded : List (Requirement × Vec (Vec ℕ A) A)) (disjunctions : List (Disjunction A)) (queue : Queue N Q)
+    (trail : Trail) (old new : Cache D N S A H) (later : IsLater has old new) where
   abbrev same_solvable : S → S → Bool
   same_solvable = (provided old.provider).same_solvable
 
   abbrev with_all : D → List (VariableOrigin N S) → List (Requirement × Vec (Vec ℕ A) A) → Store N S
   with_all = store_with provided scored kept
 
-  module _ (is : IsConsistent has_name (with_all old.provider origins loaded) loaded disjunctions old queue trail) (lawful : IsLawful (provided old.provider)) where
+  module _ (is : IsConsistent has_name (with_all old.provider origins loaded) loaded disjunctions old queue trail)
+      (lawful : IsLawful (provided old.provider)) where
     -- after solvables got variables, or a beginning of them did
-    pub after_variables : (ss : List S) (os : List (VariableOrigin N S)) → All (IsKnownSolvable (provided old.provider).universe) ss
-        → os ≡ with_variables same_solvable origins ss → IsConsistent has_name (with_all new.provider os loaded) loaded disjunctions new queue trail
-    after_variables ss os known got = subst (λ q. IsConsistent has_name (with_all q os loaded) loaded disjunctions new queue trail) (sym later.provider) (record {
-      few = is.few;
-      known = is.known;
-      may_decide = is.may_decide;
-      sound = subst (λ vs. IsSound (with_all old.provider vs loaded)) (sym got) (IsSound-with_variables (with_all old.provider origins loaded) is.sound lawful ss known);
-      queried = λ k d lt i v below. asked_later has (provided old.provider) _ old new later (is.queried k d lt i v below);
-    })
+    pub after_variables : (ss : List S) (os : List (VariableOrigin N S)) →
+        All (IsKnownSolvable (provided old.provider).universe) ss
+        → os ≡ with_variables same_solvable origins ss →
+        IsConsistent has_name (with_all new.provider os loaded) loaded disjunctions new queue trail
+    after_variables ss os known got =
+        subst (λ q. IsConsistent has_name (with_all q os loaded) loaded disjunctions new queue trail)
+        (sym later.provider) (record {
+          few = is.few;
+          known = is.known;
+          may_decide = is.may_decide;
+          sound = subst (λ vs. IsSound (with_all old.provider vs loaded)) (sym got)
+              (IsSound-with_variables (with_all old.provider origins loaded) is.sound lawful ss known);
+          queried = λ k d lt i v below. asked_later has (provided old.provider) _ old new later
+              (is.queried k d lt i v below);
+        })
 
     -- after the candidates of a requirement got variables, and these were kept
-    pub after_load : (r : Requirement) (best : VersionSetId → List S) (os : List (VariableOrigin N S)) (lists : Vec (Vec ℕ A) A) (kept_lists : List (Requirement × Vec (Vec ℕ A) A))
-        → All (IsKnownSolvable (provided old.provider).universe) (flat_map best (sets_of (provided old.provider).universe r))
+    pub after_load : (r : Requirement) (best : VersionSetId →
+        List S) (os : List (VariableOrigin N S)) (lists : Vec (Vec ℕ A) A)
+        (kept_lists : List (Requirement × Vec (Vec ℕ A) A))
+        → All (IsKnownSolvable (provided old.provider).universe)
+        (flat_map best (sets_of (provided old.provider).universe r))
         → lookup (same_requirement r) (lists_of_loaded loaded) ≡ None
         → os ≡ with_variables same_solvable origins (flat_map best (sets_of (provided old.provider).universe r))
-        → map (λ l. l.items) lists.items ≡ map (λ v. map (interned_variable same_solvable os) (best v)) (sets_of (provided old.provider).universe r)
+        → map (λ l. l.items) lists.items ≡ map (λ v. map (interned_variable same_solvable os) (best v))
+        (sets_of (provided old.provider).universe r)
         → length (flat_map best (sets_of (provided old.provider).universe r)) < 2 ^ 40
         → All (λ v. is_set_queried (provided old.provider) new v ≡ true) (sets_of (provided old.provider).universe r)
         → kept_lists ≡ with_entry loaded r lists
@@ -460,27 +628,34 @@ module _ {D N S A H Q C : Type 0} (provided : D → Provider N S) (scored : C �
     after_load r best os lists kept_lists solvables fresh got made few asked keeps =
         let sets = sets_of (provided old.provider).universe r in
         let st = with_all old.provider origins loaded in
-        let own : List (VariableOrigin N S) → List (List ℕ) = λ vs. map (λ v. map (interned_variable same_solvable vs) (best v)) sets in
+        let own : List (VariableOrigin N S) → List (List ℕ) =
+        λ vs. map (λ v. map (interned_variable same_solvable vs) (best v)) sets in
         let entry : lists_of_loaded (with_entry loaded r lists) ≡ lists_of_loaded loaded ++ (r, own os) ∷ [] =
         insert-kept loaded r lists fresh ∙ ap (λ ls. lists_of_loaded loaded ++ (r, ls) ∷ []) made in
         let rows : length (flat_map (λ l. l) (items_of lists)) ≡ length (flat_map best sets) =
-        ap (λ ls. length (flat_map (λ l. l) ls)) made ∙ ap length (flat_map-map (λ l. l) (λ v. map (interned_variable same_solvable os) (best v)) sets)
+        ap (λ ls. length (flat_map (λ l. l) ls)) made
+        ∙ ap length (flat_map-map (λ l. l) (λ v. map (interned_variable same_solvable os) (best v)) sets)
         ∙ length-mapped best (interned_variable same_solvable os) sets in
         let sound : IsSound (record st { origins = os; loaded = lists_of_loaded loaded ++ (r, own os) ∷ [] }) =
-        subst (λ vs. IsSound (record st { origins = vs; loaded = lists_of_loaded loaded ++ (r, own vs) ∷ [] })) (sym got)
+        subst (λ vs. IsSound (record st { origins = vs; loaded = lists_of_loaded loaded ++ (r, own vs) ∷ [] }))
+        (sym got)
         (IsSound-interned st is.sound lawful r best sets solvables fresh refl) in
         subst (λ ks. IsConsistent has_name (with_all new.provider os ks) ks disjunctions new queue trail) (sym keeps)
-        (subst (λ q. IsConsistent has_name (with_all q os (with_entry loaded r lists)) (with_entry loaded r lists) disjunctions new queue trail) (sym later.provider) (record {
+        (subst (λ q. IsConsistent has_name (with_all q os (with_entry loaded r lists))
+        (with_entry loaded r lists) disjunctions new queue trail) (sym later.provider) (record {
           few = few-more loaded r lists is.few (rw rows few);
           known = is.known;
           may_decide = record {
             in_step = is.may_decide.in_step;
-            stands = stands_with_lists (references (provided old.provider).universe loaded disjunctions) queue r lists (lookup-none loaded r fresh) is.may_decide.stands;
+            stands = stands_with_lists (references (provided old.provider).universe loaded disjunctions) queue r
+                lists (lookup-none loaded r fresh) is.may_decide.stands;
             named = is.may_decide.named;
             hot = is.may_decide.hot;
           };
           sound = subst (λ ls. IsSound (record st { origins = os; loaded = ls })) (sym entry) sound;
           queried = subst (AreQueried (provided old.provider) new) (sym entry)
-              (All-push (λ e. All (λ v. is_set_queried (provided old.provider) new v ≡ true) (sets_of (provided old.provider).universe e.0)) (lists_of_loaded loaded) (r, own os)
-              (λ k d lt i v below. asked_later has (provided old.provider) _ old new later (is.queried k d lt i v below)) asked);
+              (All-push (λ e. All (λ v. is_set_queried (provided old.provider) new v ≡ true)
+              (sets_of (provided old.provider).universe e.0)) (lists_of_loaded loaded) (r, own os)
+              (λ k d lt i v below. asked_later has (provided old.provider) _ old new later
+              (is.queried k d lt i v below)) asked);
         }))

@@ -1,10 +1,12 @@
 -- What stores name is known: what variables stand for, and what clauses name. N are the names, S the solvables.
-use Rattle.std.proofs.Common.{◌≡◌, ℕ, ◌+◌, ◌<◌, ◌≤◌, arith, Bool, true, false, List, [], ◌∷◌, ◌++◌, length, Option, None, Some, refl, subst, zero, suc}
+use Rattle.std.proofs.Common.{◌≡◌, ℕ, ◌+◌, ◌<◌, ◌≤◌, arith, Bool, true, false, List, [], ◌∷◌, ◌++◌, length, Option}
+use Rattle.std.proofs.Common.{None, Some, refl, subst, zero, suc}
 use Rattle.std.specs.Prelude.{All, ◌&&◌, is_some, if◌then◌else◌, flat_map, nat_lt}
 use Rattle.std.specs.List.{list_all, position_from, remove}
 use Rattle.std.specs.List.Sorted.{IsPermutation}
 use Rattle.std.proofs.lemmas.Bool.Decides.{nat_tests}
-use Rattle.std.proofs.lemmas.List.Elements.{All-nil, All-cons, All-head, All-tail, All-push, All-append, All-take, All-drop, All-filter}
+use Rattle.std.proofs.lemmas.List.Elements.{All-nil, All-cons, All-head, All-tail, All-push, All-append, All-take}
+use Rattle.std.proofs.lemmas.List.Elements.{All-drop, All-filter}
 use Rattle.std.proofs.lemmas.List.Sorted.{All-permutation}
 use Rattle.typed_ids.specs.declared.version_set_id.VersionSetId.{VersionSetId}
 use Rattle.providers.specs.Provider.{Universe, matching, sorted, favored_first, from_place}
@@ -31,10 +33,12 @@ module _ {N S : Type 0} (universe : Universe N S) where
   -- ---- variables
 
   -- a variable among known origins is known
-  pub variable_known : (os : List (VariableOrigin N S)) → All IsKnownOrigin os → (v : ℕ) → v < length os → IsKnown universe os v
+  pub variable_known : (os : List (VariableOrigin N S)) → All IsKnownOrigin os → (v : ℕ) → v < length os →
+      IsKnown universe os v
   variable_known [] all v within = absurd (omega (arith, within))
   variable_known (o ∷ os) all zero within = All-head IsKnownOrigin o os all
-  variable_known (o ∷ os) all (suc v) within = variable_known os (All-tail IsKnownOrigin o os all) v (omega (arith, within))
+  variable_known (o ∷ os) all (suc v) within =
+      variable_known os (All-tail IsKnownOrigin o os all) v (omega (arith, within))
 
   -- a known one is among them
   pub known_within : (os : List (VariableOrigin N S)) (v : ℕ) → IsKnown universe os v → v < length os
@@ -44,16 +48,20 @@ module _ {N S : Type 0} (universe : Universe N S) where
   known_within (o ∷ os) (suc v) known = omega (arith, known_within os v known)
 
   module _ (same : S → S → Bool) where
-    known-with : (os : List (VariableOrigin N S)) (s : S) → IsKnownSolvable s → All IsKnownOrigin os → All IsKnownOrigin (with_variable same os s)
+    known-with : (os : List (VariableOrigin N S)) (s : S) → IsKnownSolvable s → All IsKnownOrigin os →
+        All IsKnownOrigin (with_variable same os s)
     known-with os s known all =
-        elim (is_some (variable_of_solvable same os s)) as (λ b. All IsKnownOrigin (if b then os else os ++ Solvable s ∷ []))
+        elim (is_some (variable_of_solvable same os s)) as (λ b. All IsKnownOrigin
+        (if b then os else os ++ Solvable s ∷ []))
         [ true ↦ all | false ↦ All-push IsKnownOrigin os (Solvable s) all known ]
 
     -- once known solvables have variables, what variables stand for is known still
-    pub known-with_variables : (os : List (VariableOrigin N S)) (ss : List S) → All IsKnownSolvable ss → All IsKnownOrigin os → All IsKnownOrigin (with_variables same os ss)
+    pub known-with_variables : (os : List (VariableOrigin N S)) (ss : List S) → All IsKnownSolvable ss →
+        All IsKnownOrigin os → All IsKnownOrigin (with_variables same os ss)
     known-with_variables os [] known all = all
     known-with_variables os (s ∷ ss) known all =
-        known-with_variables (with_variable same os s) ss (All-tail IsKnownSolvable s ss known) (known-with os s (All-head IsKnownSolvable s ss known) all)
+        known-with_variables (with_variable same os s) ss (All-tail IsKnownSolvable s ss known)
+        (known-with os s (All-head IsKnownSolvable s ss known) all)
 
   -- ---- clauses
 
@@ -79,7 +87,8 @@ module _ {N S : Type 0} (universe : Universe N S) where
     known_one : (v : ℕ) → nat_lt v (length os) ≡ true → IsKnown universe os v
     known_one v test = variable_known os all v (let within : v < length os = grind (arith, nat_tests, test) in within)
 
-    known_two : (v w : ℕ) → (nat_lt v (length os) && nat_lt w (length os)) ≡ true → IsKnown universe os v × IsKnown universe os w
+    known_two : (v w : ℕ) → (nat_lt v (length os) && nat_lt w (length os)) ≡ true → IsKnown universe os v
+        × IsKnown universe os w
     known_two v w test =
         let tests = both (nat_lt v (length os)) (nat_lt w (length os)) test in
         (known_one v tests.0, known_one w tests.1)
@@ -106,7 +115,8 @@ module _ {N S : Type 0} (universe : Universe N S) where
     known_direct (Kind.Learnt id) test = tt
 
 -- literals that pass the test are of variables below the number
-pub literals_below : (n : ℕ) (ls : List Lit) → list_all (λ l. nat_lt (variable_of l) n) ls ≡ true → All (λ l. variable_of l < n) ls
+pub literals_below : (n : ℕ) (ls : List Lit) → list_all (λ l. nat_lt (variable_of l) n) ls ≡ true →
+    All (λ l. variable_of l < n) ls
 literals_below n [] test = All-nil (λ l. variable_of l < n)
 literals_below n (l ∷ ls) test =
     let tests = both (nat_lt (variable_of l) n) (list_all (λ m. nat_lt (variable_of m) n) ls) test in
@@ -116,7 +126,8 @@ literals_below n (l ∷ ls) test =
 -- ---- candidates
 
 -- what passes a test somewhere in a list is like all of the list
-found_is : {X : Type 0} (P : X → Type 0) (test : X → Bool) (x : X) → ((y : X) → test y ≡ true → y ≡ x) → (i p : ℕ) (xs : List X)
+found_is : {X : Type 0} (P : X → Type 0) (test : X → Bool) (x : X) → ((y : X) → test y ≡ true → y ≡ x) →
+    (i p : ℕ) (xs : List X)
     → position_from test i xs ≡ Some p → All P xs → P x
 found_is P test x only i p [] found all = (let no : ◌≡◌ {A = Option ℕ} None (Some p) = found in cc)
 found_is P test x only i p (y ∷ ys) found all =
@@ -144,7 +155,8 @@ module _ {N S : Type 0} (p : Provider N S) (is : IsLawful p) where
       by_place : (o : Option ℕ) → position_from (λ t. p.same_solvable t s) 0 list ≡ o → All Known (from_place s list o)
       by_place None found = all
       by_place (Some place) found =
-          All-cons Known s (remove list place) (found_is Known (λ t. p.same_solvable t s) s (λ t h. is.same t s h) 0 place list found all)
+          All-cons Known s (remove list place) (found_is Known (λ t. p.same_solvable t s) s
+          (λ t h. is.same t s h) 0 place list found all)
           (All-append Known _ _ (All-take Known place list all) (All-drop Known (suc place) list all))
 
   -- the candidates of a version set are known
@@ -158,4 +170,5 @@ module _ {N S : Type 0} (p : Provider N S) (is : IsLawful p) where
   -- so are those of several, one after the other
   pub all_known : (vs : List VersionSetId) → All Known (flat_map (sorted p.universe p.answers p.same_solvable) vs)
   all_known [] = All-nil Known
-  all_known (v ∷ vs) = All-append Known (sorted p.universe p.answers p.same_solvable v) _ (sorted_known v) (all_known vs)
+  all_known (v ∷ vs) = All-append Known (sorted p.universe p.answers p.same_solvable v) _ (sorted_known v)
+      (all_known vs)

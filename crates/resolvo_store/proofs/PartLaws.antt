@@ -13,7 +13,8 @@ use Rattle.providers.specs.declared.requirement.Requirement.TheVariants.{Single,
 use Rattle.providers.specs.Requirement.{same_requirement}
 use Rattle.variables.specs.declared.variable_origin.VariableOrigin.{VariableOrigin}
 use Rattle.variables.specs.declared.variable_origin.VariableOrigin.TheVariants.{Solvable}
-use Rattle.variables.specs.Variables.{IsRootFirst, is_solvable, variable_of_solvable, interned_variable, with_variable, with_variables}
+use Rattle.variables.specs.Variables.{IsRootFirst, is_solvable, variable_of_solvable, interned_variable}
+use Rattle.variables.specs.Variables.{with_variable, with_variables}
 use Rattle.variables.proofs.VariableLemmas.{or_else, position_within, position-append, root-append}
 use Rattle.variables.proofs.InterningLemmas.{variable-kept, kept-all, variable-with_variable}
 use Rattle.decisions.specs.Trail.{Entry, val, entries_until, IsOnce}
@@ -24,12 +25,14 @@ use Rattle.resolvo_store.specs.Sound.{requires_from}
 -- ---- lists
 
 -- what stands in a list with one more stands in the list, or is the one at its end
-pub slice_get-push_cases : {X : Type 0} (P : Type 0) (xs : List X) (x : X) (i : ℕ) (y : X) → slice_get (xs ++ x ∷ []) i ≡ Some y
+pub slice_get-push_cases : {X : Type 0} (P : Type 0) (xs : List X) (x : X) (i : ℕ) (y : X) →
+    slice_get (xs ++ x ∷ []) i ≡ Some y
     → (slice_get xs i ≡ Some y → P) → (i ≡ length xs → x ≡ y → P) → P
 slice_get-push_cases P [] x zero y e before last = last refl cc
 slice_get-push_cases {X} P [] x (suc i) y e before last = absurd (let no : ◌≡◌ {A = Option X} None (Some y) = e in cc)
 slice_get-push_cases P (z ∷ xs) x zero y e before last = before e
-slice_get-push_cases P (z ∷ xs) x (suc i) y e before last = slice_get-push_cases P xs x i y e before (λ k. last (omega (arith, k)))
+slice_get-push_cases P (z ∷ xs) x (suc i) y e before last =
+    slice_get-push_cases P xs x i y e before (λ k. last (omega (arith, k)))
 
 -- what is true of the members of a list is true of its front, and of the rest
 All-split : {X : Type 0} (P : X → Type 0) (xs ys : List X) → All P (xs ++ ys) → All P xs × All P ys
@@ -39,7 +42,8 @@ All-split P (x ∷ xs) ys all =
     (All-cons P x xs (All-head P x (xs ++ ys) all) rest.0, rest.1)
 
 -- what is true of the members of each list is true of each list's members
-pub All-lists : {X Y : Type 0} (P : Y → Type 0) (f : X → List Y) (xs : List X) → All P (flat_map f xs) → All (λ x. All P (f x)) xs
+pub All-lists : {X Y : Type 0} (P : Y → Type 0) (f : X → List Y) (xs : List X) → All P (flat_map f xs) →
+    All (λ x. All P (f x)) xs
 All-lists P f [] all = All-nil (λ x. All P (f x))
 All-lists P f (x ∷ xs) all =
     let split = All-split P (f x) (flat_map f xs) all in
@@ -79,7 +83,8 @@ module _ {X : Type 0} where
       [ true ↦ λ h. cc | false ↦ λ h. not_among r es h ]) none
 
   -- what is found is found before one more entry too
-  pub found-push : (r : Requirement) (es : List (Requirement × X)) (e : Requirement × X) → IsSome (lookup (same_requirement r) es)
+  pub found-push : (r : Requirement) (es : List (Requirement × X)) (e : Requirement × X) →
+      IsSome (lookup (same_requirement r) es)
       → IsSome (lookup (same_requirement r) (es ++ e ∷ []))
   found-push r [] e h = let no : false ≡ true = h in cc
   found-push r (f ∷ es) e h =
@@ -116,7 +121,8 @@ module _ {N S : Type 0} (same : S → S → Bool) where
     AreVariables-push os s new are = record {
       root_first = root-append os (Solvable s) are.root_first;
       one_each = λ v t e.
-          slice_get-push_cases (variable_of_solvable same (os ++ Solvable s ∷ []) t ≡ Some v) os (Solvable s) v (Solvable t) e
+          slice_get-push_cases (variable_of_solvable same (os ++ Solvable s ∷ []) t ≡ Some v) os (Solvable s) v
+          (Solvable t) e
           (λ k. variable-kept same t (Solvable s) v os (are.one_each v t k))
           (λ k l. last v t k cc);
     }
@@ -128,21 +134,27 @@ module _ {N S : Type 0} (same : S → S → Bool) where
             ∙ ap (λ p. or_else p (cond (same s s) (Some (length os)) None)) new
             ∙ ap (λ b. cond b (Some (length os)) None) (reflexive s) ∙ ap Some (sym k))
 
-    AreVariables-with : (os : List (VariableOrigin N S)) (s : S) → AreVariables os → AreVariables (with_variable same os s)
+    AreVariables-with : (os : List (VariableOrigin N S)) (s : S) → AreVariables os →
+        AreVariables (with_variable same os s)
     AreVariables-with os s are = by_known (variable_of_solvable same os s) refl
       where
-        by_known : (p : Option ℕ) → variable_of_solvable same os s ≡ p → AreVariables (cond (is_some p) os (os ++ Solvable s ∷ []))
+        by_known : (p : Option ℕ) → variable_of_solvable same os s ≡ p →
+            AreVariables (cond (is_some p) os (os ++ Solvable s ∷ []))
         by_known (Some v) h = are
         by_known None h = AreVariables-push os s h are
 
-    pub AreVariables-with_all : (os : List (VariableOrigin N S)) (ss : List S) → AreVariables os → AreVariables (with_variables same os ss)
+    pub AreVariables-with_all : (os : List (VariableOrigin N S)) (ss : List S) → AreVariables os →
+        AreVariables (with_variables same os ss)
     AreVariables-with_all os [] are = are
-    AreVariables-with_all os (s ∷ ss) are = AreVariables-with_all (with_variable same os s) ss (AreVariables-with os s are)
+    AreVariables-with_all os (s ∷ ss) are =
+        AreVariables-with_all (with_variable same os s) ss (AreVariables-with os s are)
 
     -- a solvable that has a variable is found below the length
-    interned_within : (os : List (VariableOrigin N S)) (s : S) (v : ℕ) → variable_of_solvable same os s ≡ Some v → interned_variable same os s < length os
+    interned_within : (os : List (VariableOrigin N S)) (s : S) (v : ℕ) → variable_of_solvable same os s ≡ Some v →
+        interned_variable same os s < length os
     interned_within os s v h =
-        subst (λ p. unwrap_or p (length os) < length os) (sym h) (omega (arith, position_within (is_solvable same s) 0 v os h))
+        subst (λ p. unwrap_or p (length os) < length os) (sym h)
+        (omega (arith, position_within (is_solvable same s) 0 v os h))
 
     -- solvables that got variables have them
     pub interned_all : (os : List (VariableOrigin N S)) (ss : List S)
@@ -152,7 +164,8 @@ module _ {N S : Type 0} (same : S → S → Bool) where
         let after : List (VariableOrigin N S) = with_variables same (with_variable same os s) ss in
         All-cons (λ t. interned_variable same after t < length after) s ss
         (interned_within after s (interned_variable same os s)
-        (kept-all same s (interned_variable same os s) (with_variable same os s) ss (variable-with_variable same reflexive s os)))
+        (kept-all same s (interned_variable same os s) (with_variable same os s) ss
+        (variable-with_variable same reflexive s os)))
         (interned_all (with_variable same os s) ss)
 
 -- ---- trails
@@ -190,7 +203,8 @@ val-take : (n : ℕ) (es : List Entry) (x : ℕ) → val es x ≡ None → val (
 val-take zero es x none = refl
 val-take (suc n) [] x none = refl
 val-take (suc n) (e ∷ es) x none =
-    (elim (e.decision.variable == x) as (λ t. cond t (Some e.decision.value) (val es x) ≡ None → cond t (Some e.decision.value) (val (take n es) x) ≡ None)
+    (elim (e.decision.variable == x) as (λ t. cond t (Some e.decision.value) (val es x) ≡ None →
+    cond t (Some e.decision.value) (val (take n es) x) ≡ None)
     [ true ↦ λ h. h | false ↦ λ h. val-take n es x h ]) none
 
 pub IsOnce-take : (n : ℕ) (es : List Entry) → IsOnce es → IsOnce (take n es)

@@ -1,5 +1,6 @@
 -- What a Saturate answers, and that it leaves a sound store sound. N are the names, S the solvables.
-use Rattle.std.proofs.Common.{◌≡◌, ℕ, ◌<◌, ◌≤◌, ◌^◌, Bool, true, false, not, List, [], ◌∷◌, ◌++◌, length, refl, sym, subst, ◌∙◌, ap, ◌⊎◌, inl, inr, Option, None, Some}
+use Rattle.std.proofs.Common.{◌≡◌, ℕ, ◌<◌, ◌≤◌, ◌^◌, Bool, true, false, not, List, [], ◌∷◌, ◌++◌, length, refl, sym}
+use Rattle.std.proofs.Common.{subst, ◌∙◌, ap, ◌⊎◌, inl, inr, Option, None, Some}
 use Rattle.std.specs.Prelude.{MatchOption}
 use Rattle.std.proofs.lemmas.List.{append-nil, append_assoc}
 use Rattle.std.proofs.lemmas.List.Elements.{All-weaker}
@@ -25,7 +26,8 @@ use Rattle.resolvo_store.proofs.SoundLaws.{IsSound-pushed}
 
 module _ {N S : Type 0} where
   -- what a Saturate leaves, whatever it replies
-  pub saturated_so_far : (level : ℕ) (old new : Store N S) (reply : Reply) → Saturates level old reply new → IsSaturated level old new
+  pub saturated_so_far : (level : ℕ) (old new : Store N S) (reply : Reply) → Saturates level old reply new →
+      IsSaturated level old new
   saturated_so_far level old new Done is = is.0
   saturated_so_far level old new (Conflict c) is = is.0
   saturated_so_far level old new (Refused OutOfMemory) is = is
@@ -37,8 +39,11 @@ module _ {N S : Type 0} where
       → ((reply ≡ Refused LevelOutOfRange) × (new ≡ old)) ⊎ ((is_level level ≡ true) × Saturates level old reply new)
   saturate_answered old new level reply step = by_level (is_level level) refl step
     where
-      by_level : (b : Bool) → is_level level ≡ b → MatchOption (first_of ((not b, LevelOutOfRange) ∷ [])) (Saturates level old reply new) (λ e. (reply ≡ Refused e) × (new ≡ old))
-          → ((reply ≡ Refused LevelOutOfRange) × (new ≡ old)) ⊎ ((is_level level ≡ true) × Saturates level old reply new)
+      by_level : (b : Bool) → is_level level ≡ b →
+          MatchOption (first_of ((not b, LevelOutOfRange) ∷ [])) (Saturates level old reply new)
+          (λ e. (reply ≡ Refused e) × (new ≡ old))
+          → ((reply ≡ Refused LevelOutOfRange) × (new ≡ old)) ⊎ ((is_level level ≡ true)
+          × Saturates level old reply new)
       by_level true e h = inr (e, h)
       by_level false e h = inl h
 
@@ -47,34 +52,50 @@ module _ {N S : Type 0} where
     has_level : (st : Store N S) (e : Entry) → IsImplied (clause_literals st) level st.trail e → HasLevel e
     has_level st e implied = subst (λ n. (1 ≤ n) × (n < 2 ^ 31)) (sym implied.at_level) in_range
 
-    is_assigned : (st : Store N S) → IsSound st → (e : Entry) → IsImplied (clause_literals st) level st.trail e → IsAssigned st e
+    is_assigned : (st : Store N S) → IsSound st → (e : Entry) → IsImplied (clause_literals st) level st.trail e →
+        IsAssigned st e
     is_assigned st sound e implied =
         let own = forced_is_own (clause_literals st) level st.trail e implied in
         let known = literal_known st sound e.decision.derived_from (decided_literal e.decision) own in
-        record { variable = subst (IsVariable st) (decided_variable e.decision) known; clause = clause_there st e.decision.derived_from (decided_literal e.decision) own }
+        record {
+          variable = subst (IsVariable st) (decided_variable e.decision) known;
+          clause =
+              clause_there st e.decision.derived_from (decided_literal e.decision) own;
+        }
 
     -- entries that clauses force, one after another
-    IsSound-implied : (st : Store N S) (added : List Entry) → IsSound st → AreImplied (clause_literals st) level st.trail added → IsSound (record st { trail = st.trail ++ added })
-    IsSound-implied st [] sound implied = subst (λ es. IsSound (record st { trail = es })) (sym (append-nil st.trail)) sound
+    IsSound-implied : (st : Store N S) (added : List Entry) → IsSound st →
+        AreImplied (clause_literals st) level st.trail added → IsSound (record st { trail = st.trail ++ added })
+    IsSound-implied st [] sound implied =
+        subst (λ es. IsSound (record st { trail = es })) (sym (append-nil st.trail)) sound
     IsSound-implied st (e ∷ added) sound implied =
         subst (λ es. IsSound (record st { trail = es })) (append_assoc st.trail (e ∷ []) added)
         (IsSound-implied (record st { trail = st.trail ++ e ∷ [] }) added
-        (IsSound-pushed st sound e (forced_was_open (clause_literals st) level st.trail e implied.0) (is_assigned st sound e implied.0) (has_level st e implied.0)) implied.1)
+        (IsSound-pushed st sound e (forced_was_open (clause_literals st) level st.trail e implied.0)
+        (is_assigned st sound e implied.0) (has_level st e implied.0)) implied.1)
 
   -- other watches of their clauses' own literals, in exact lists
-  IsSound-rearranged : (st : Store N S) (watches : List (List Lit)) (watchers : Lit → List ℕ) (new : Store N S) → new ≡ record st { watches = watches; watchers = watchers }
-      → IsSound st → IsRearranged (clause_literals st) (watched_by st) (watched_by new) → length new.watches ≡ length st.watches → IsExact (watched_by new) new.watchers → IsSound new
+  IsSound-rearranged : (st : Store N S) (watches : List (List Lit)) (watchers : Lit → List ℕ) (new : Store N S) →
+      new ≡ record st { watches = watches; watchers = watchers }
+      → IsSound st → IsRearranged (clause_literals st) (watched_by st) (watched_by new) →
+      length new.watches ≡ length st.watches → IsExact (watched_by new) new.watchers → IsSound new
   IsSound-rearranged st watches watchers new is sound rearranged watched exact =
-      let own = subst (λ (s : Store N S). IsRearranged (clause_literals st) (watched_by st) (watched_by s)) is rearranged in
+      let own = subst (λ (s : Store N S). IsRearranged (clause_literals st) (watched_by st) (watched_by s)) is
+      rearranged in
       let made : Store N S = record st { watches = watches; watchers = watchers } in
       subst (λ s. IsSound s) (sym is) (record {
         root_first = sound.root_first;
         origins_known = sound.origins_known;
         one_variable_each = sound.one_variable_each;
         loaded_once = sound.loaded_once;
-        loaded = All-weaker (IsLoaded st) (IsLoaded made) (λ e k. record { one_a_set = k.one_a_set; variables = k.variables }) st.loaded sound.loaded;
+        loaded = All-weaker (IsLoaded st) (IsLoaded made) (λ e k. record {
+          one_a_set = k.one_a_set;
+          variables =
+              k.variables;
+        }) st.loaded sound.loaded;
         registered = sound.registered;
-        clauses = All-weaker (IsRegistered st) (IsRegistered made) (λ d k. record { parent = k.parent; loaded = k.loaded; condition = k.condition }) st.requires sound.clauses;
+        clauses = All-weaker (IsRegistered st) (IsRegistered made)
+            (λ d k. record { parent = k.parent; loaded = k.loaded; condition = k.condition }) st.requires sound.clauses;
         clauses_known = sound.clauses_known;
         learnt_known = sound.learnt_known;
         disjunctions_known = sound.disjunctions_known;
@@ -84,10 +105,12 @@ module _ {N S : Type 0} where
         tracked = sound.tracked;
         place = sound.place;
         trail = sound.trail;
-        assigned = All-weaker (IsAssigned st) (IsAssigned made) (λ e k. record { variable = k.variable; clause = k.clause }) st.trail sound.assigned;
+        assigned = All-weaker (IsAssigned st) (IsAssigned made)
+            (λ e k. record { variable = k.variable; clause = k.clause }) st.trail sound.assigned;
       })
 
-  pub IsSound-saturated : (level : ℕ) (old new : Store N S) → (1 ≤ level) × (level < 2 ^ 31) → IsSound old → IsSaturated level old new → IsSound new
+  pub IsSound-saturated : (level : ℕ) (old new : Store N S) → (1 ≤ level) × (level < 2 ^ 31) → IsSound old →
+      IsSaturated level old new → IsSound new
   IsSound-saturated level old new in_range sound is =
       IsSound-rearranged (record old { trail = old.trail ++ is.added }) is.watches is.watchers new is.rest
       (IsSound-implied level in_range old is.added sound is.implied) is.rearranged is.watched is.exact
@@ -108,13 +131,15 @@ module _ {N S : Type 0} where
   }
 
   -- what a refused command leaves
-  pub refusal_leaves : (old new : Store N S) (c : Command N S) (reply : Reply) → IsSound old → Step old c reply new → IsRefused reply → RefusalLeaves c old new
+  pub refusal_leaves : (old new : Store N S) (c : Command N S) (reply : Reply) → IsSound old → Step old c reply new →
+      IsRefused reply → RefusalLeaves c old new
   refusal_leaves old new c (Refused e) sound step refused = by_command c step
     where
       plainly : (d : Command N S) → is_saturate d ≡ false → Step old d (Refused e) new → new ≡ old
       plainly d plain s = by_refusal (first_refusal old d) s
         where
-          by_refusal : (x : Option StoreError) → MatchOption x (IsAnswered old d (Refused e) new) (λ y. (Refused e ≡ Refused y) × (new ≡ old)) → new ≡ old
+          by_refusal : (x : Option StoreError) →
+              MatchOption x (IsAnswered old d (Refused e) new) (λ y. (Refused e ≡ Refused y) × (new ≡ old)) → new ≡ old
           by_refusal None h = (has_outcome old new d (Refused e) plain h).1
           by_refusal (Some y) h = h.1
 

@@ -1,5 +1,6 @@
 -- Steps and runs lead from sound stores to sound ones, and a new store is sound.
-use Rattle.std.proofs.Common.{◌≡◌, ℕ, ◌<◌, ◌≤◌, Bool, true, false, cond, List, [], ◌∷◌, length, Option, None, Some, IsSome, refl, arith, sym, ◌∙◌, ap, subst, zero, suc, ◌⊎◌, inl, inr}
+use Rattle.std.proofs.Common.{◌≡◌, ℕ, ◌<◌, ◌≤◌, Bool, true, false, cond, List, [], ◌∷◌, length, Option, None, Some}
+use Rattle.std.proofs.Common.{IsSome, refl, arith, sym, ◌∙◌, ap, subst, zero, suc, ◌⊎◌, inl, inr}
 use Rattle.std.specs.Prelude.{◌^◌, ⊤, nat_eq, slice_get, is_none, find, option_map, MatchOption, ◌&&◌, not}
 use Rattle.std.specs.List.{IsDistinct, list_all}
 use Rattle.std.proofs.lemmas.Bool.Decides.{nat_tests}
@@ -12,10 +13,17 @@ use Rattle.decisions.specs.Trail.{Entry, HasLevel}
 use Rattle.watch_map.specs.Watching.{is_literal_in}
 use Rattle.clauses.specs.ClauseTexts.{IsKnownClause}
 use Rattle.clauses.specs.declared.clause.Clause.TheVariants as Kind
-use Rattle.resolvo_store.specs.Command.{Command, Variable, Helper, Load, Requires, Root, Constrains, ConstrainsExcluded, ConstrainsParent, Lock, Exclude, AnyOf, Learnt, Assign, UndoLast, UndoUntil, Unpropagated, Rewatch, Watchers, Saturate, Decide, Disjunction, AtMostOnce, Bump, Decay, Standard, Reply, TrackedAs, Refused, is_saturate}
-use Rattle.resolvo_store.specs.Store.{Store, Provider, StoredDisjunction, new_store, lists_of, clause_literals, watched_by, candidates_of}
-use Rattle.resolvo_store.specs.Refusals.{knows_variable, knows_literal, knows_disjunction, is_level, may_rewatch, refusals, first_refusal}
-use Rattle.resolvo_store.specs.Outcome.{Outcome, outcome, load, hands_next, adds_clause, tracking, with_bits, with_tracked}
+use Rattle.resolvo_store.specs.Command.{Command, Variable, Helper, Load, Requires, Root, Constrains}
+use Rattle.resolvo_store.specs.Command.{ConstrainsExcluded, ConstrainsParent, Lock, Exclude, AnyOf, Learnt, Assign}
+use Rattle.resolvo_store.specs.Command.{UndoLast, UndoUntil, Unpropagated, Rewatch, Watchers, Saturate, Decide}
+use Rattle.resolvo_store.specs.Command.{Disjunction, AtMostOnce, Bump, Decay, Standard, Reply, TrackedAs, Refused}
+use Rattle.resolvo_store.specs.Command.{is_saturate}
+use Rattle.resolvo_store.specs.Store.{Store, Provider, StoredDisjunction, new_store, lists_of, clause_literals}
+use Rattle.resolvo_store.specs.Store.{watched_by, candidates_of}
+use Rattle.resolvo_store.specs.Refusals.{knows_variable, knows_literal, knows_disjunction, is_level, may_rewatch}
+use Rattle.resolvo_store.specs.Refusals.{refusals, first_refusal}
+use Rattle.resolvo_store.specs.Outcome.{Outcome, outcome, load, hands_next, adds_clause, tracking, with_bits}
+use Rattle.resolvo_store.specs.Outcome.{with_tracked}
 use Rattle.resolvo_store.specs.Saturating.{IsSaturated}
 use Rattle.resolvo_store.specs.Step.{HasOutcome, IsAnswered, Step, Run}
 use Rattle.at_most_once.specs.AtMostOne as tracking_of
@@ -26,7 +34,10 @@ use Rattle.resolvo_store.specs.Sound.{IsSound, AreLiterals, IsLoaded, IsRegister
 use Rattle.resolvo_store.proofs.AddingLemmas.{both, failed, disjunction_known}
 use Rattle.resolvo_store.proofs.RunLemmas.{has_outcome}
 use Rattle.resolvo_store.proofs.SaturatedLaws.{saturated_so_far, saturate_answered, IsSound-saturated}
-use Rattle.resolvo_store.proofs.SoundLaws.{IsSound-with_variable, IsSound-interned, IsSound-added, IsSound-helper, IsSound-requires, IsSound-disjunction, IsSound-learnt, IsSound-scored, IsSound-rewatched, IsSound-assigned, IsSound-without_newest, IsSound-entries_until, IsSound-hands_next}
+use Rattle.resolvo_store.proofs.SoundLaws.{IsSound-with_variable, IsSound-interned, IsSound-added, IsSound-helper}
+use Rattle.resolvo_store.proofs.SoundLaws.{IsSound-requires, IsSound-disjunction, IsSound-learnt, IsSound-scored}
+use Rattle.resolvo_store.proofs.SoundLaws.{IsSound-rewatched, IsSound-assigned, IsSound-without_newest}
+use Rattle.resolvo_store.proofs.SoundLaws.{IsSound-entries_until, IsSound-hands_next}
 use Rattle.resolvo_store.proofs.TrackedLaws.{IsSound-tracked}
 use Rattle.resolvo_store.proofs.KnownLemmas.{IsKnownOrigin, IsLawful, known_direct, literals_below, all_known}
 
@@ -37,13 +48,15 @@ abbrev NoneApplies : List (Bool × StoreError) → Type 0
 NoneApplies [] = ⊤
 NoneApplies (r ∷ rs) = (r.0 ≡ false) × NoneApplies rs
 
-none_applies : (rs : List (Bool × StoreError)) → option_map (λ (r : Bool × StoreError). r.1) (find (λ (r : Bool × StoreError). r.0) rs) ≡ None → NoneApplies rs
+none_applies : (rs : List (Bool × StoreError)) →
+    option_map (λ (r : Bool × StoreError). r.1) (find (λ (r : Bool × StoreError). r.0) rs) ≡ None → NoneApplies rs
 none_applies [] none = tt
 none_applies (r ∷ rs) none =
     let split = by_test r.0 (find (λ (x : Bool × StoreError). x.0) rs) none in
     (split.0, none_applies rs split.1)
   where
-    by_test : (b : Bool) (o : Option (Bool × StoreError)) → option_map (λ (x : Bool × StoreError). x.1) (cond b (Some r) o) ≡ None
+    by_test : (b : Bool) (o : Option (Bool × StoreError)) →
+        option_map (λ (x : Bool × StoreError). x.1) (cond b (Some r) o) ≡ None
         → (b ≡ false) × (option_map (λ (x : Bool × StoreError). x.1) o ≡ None)
     by_test true o h = cc
     by_test false o h = (refl, h)
@@ -74,41 +87,67 @@ module _ {N S : Type 0} (st : Store N S) (sound : IsSound st) (lawful : IsLawful
     where
       by_lists : (o : Option (List (List ℕ))) → lists_of st r ≡ o → IsSound (load st r o).store
       by_lists (Some lists) h = sound
-      by_lists None h = IsSound-interned st sound lawful r (candidates_of st) (sets_of universe r) (all_known st.provider lawful (sets_of universe r)) h refl
+      by_lists None h = IsSound-interned st sound lawful r (candidates_of st) (sets_of universe r)
+          (all_known st.provider lawful (sets_of universe r)) h refl
   IsSound-outcome (Requires parent r disjunction) none =
       let tests = test_of (Requires parent r disjunction) none in
       let known : parent < length st.origins = grind (arith, nat_tests, tests.0) in
-      let named = both (knows_variable st parent) (knows_requirement universe r && knows_disjunction st disjunction) (passed _ tests.0) in
+      let named = both (knows_variable st parent) (knows_requirement universe r && knows_disjunction st disjunction)
+      (passed _ tests.0) in
       let requirement = both (knows_requirement universe r) (knows_disjunction st disjunction) named.1 in
-      IsSound-requires st sound parent disjunction r requirement.0 known (is_there (lists_of st r) tests.1.0) (disjunction_known st disjunction requirement.1)
-  IsSound-outcome Root none = IsSound-added st sound Kind.InstallRoot tt (record { unregistered = λ id. refl; untracked = λ named. refl })
+      IsSound-requires st sound parent disjunction r requirement.0 known (is_there (lists_of st r) tests.1.0)
+      (disjunction_known st disjunction requirement.1)
+  IsSound-outcome Root none = IsSound-added st sound Kind.InstallRoot tt
+      (record { unregistered = λ id. refl; untracked = λ named. refl })
   IsSound-outcome (Constrains parent forbidden v) none =
-      let known = known_direct universe st.origins sound.origins_known (Kind.Constrains parent forbidden v) (passed _ (test_of (Constrains parent forbidden v) none).0) in
-      IsSound-added st sound (Kind.Constrains parent forbidden v) known (record { unregistered = λ id. refl; untracked = λ named. refl })
+      let known = known_direct universe st.origins sound.origins_known (Kind.Constrains parent forbidden v)
+      (passed _ (test_of (Constrains parent forbidden v) none).0) in
+      IsSound-added st sound (Kind.Constrains parent forbidden v) known
+      (record { unregistered = λ id. refl; untracked = λ named. refl })
   IsSound-outcome (ConstrainsExcluded candidate aux v) none =
-      let known = known_direct universe st.origins sound.origins_known (Kind.ConstrainsExcluded candidate aux v) (passed _ (test_of (ConstrainsExcluded candidate aux v) none).0) in
-      IsSound-added st sound (Kind.ConstrainsExcluded candidate aux v) known (record { unregistered = λ id. refl; untracked = λ named. refl })
+      let known = known_direct universe st.origins sound.origins_known (Kind.ConstrainsExcluded candidate aux v)
+      (passed _ (test_of (ConstrainsExcluded candidate aux v) none).0) in
+      IsSound-added st sound (Kind.ConstrainsExcluded candidate aux v) known
+      (record { unregistered = λ id. refl; untracked = λ named. refl })
   IsSound-outcome (ConstrainsParent parent aux v) none =
-      let known = known_direct universe st.origins sound.origins_known (Kind.ConstrainsParent parent aux v) (passed _ (test_of (ConstrainsParent parent aux v) none).0) in
-      IsSound-added st sound (Kind.ConstrainsParent parent aux v) known (record { unregistered = λ id. refl; untracked = λ named. refl })
+      let known = known_direct universe st.origins sound.origins_known (Kind.ConstrainsParent parent aux v)
+      (passed _ (test_of (ConstrainsParent parent aux v) none).0) in
+      IsSound-added st sound (Kind.ConstrainsParent parent aux v) known
+      (record { unregistered = λ id. refl; untracked = λ named. refl })
   IsSound-outcome (Lock locked other) none =
-      let known = known_direct universe st.origins sound.origins_known (Kind.Lock locked other) (passed _ (test_of (Lock locked other) none).0) in
-      IsSound-added st sound (Kind.Lock locked other) known (record { unregistered = λ id. refl; untracked = λ named. refl })
+      let known = known_direct universe st.origins sound.origins_known (Kind.Lock locked other)
+      (passed _ (test_of (Lock locked other) none).0) in
+      IsSound-added st sound (Kind.Lock locked other) known (record {
+        unregistered = λ id. refl;
+        untracked =
+            λ named. refl;
+      })
   IsSound-outcome (Exclude v reason) none =
-      let known = known_direct universe st.origins sound.origins_known (Kind.Excluded v reason) (passed _ (test_of (Exclude v reason) none).0) in
-      IsSound-added st sound (Kind.Excluded v reason) known (record { unregistered = λ id. refl; untracked = λ named. refl })
+      let known = known_direct universe st.origins sound.origins_known (Kind.Excluded v reason)
+      (passed _ (test_of (Exclude v reason) none).0) in
+      IsSound-added st sound (Kind.Excluded v reason) known (record {
+        unregistered = λ id. refl;
+        untracked =
+            λ named. refl;
+      })
   IsSound-outcome (AnyOf selected other) none =
-      let known = known_direct universe st.origins sound.origins_known (Kind.AnyOf selected other) (passed _ (test_of (AnyOf selected other) none).0) in
-      IsSound-added st sound (Kind.AnyOf selected other) known (record { unregistered = λ id. refl; untracked = λ named. refl })
+      let known = known_direct universe st.origins sound.origins_known (Kind.AnyOf selected other)
+      (passed _ (test_of (AnyOf selected other) none).0) in
+      IsSound-added st sound (Kind.AnyOf selected other) known
+      (record { unregistered = λ id. refl; untracked = λ named. refl })
   IsSound-outcome (Learnt ls) none =
-      IsSound-learnt st sound ls (literals_below (length st.origins) ls (passed (list_all (knows_literal st) ls) (test_of (Learnt ls) none).0))
+      IsSound-learnt st sound ls (literals_below (length st.origins) ls
+      (passed (list_all (knows_literal st) ls) (test_of (Learnt ls) none).0))
   IsSound-outcome (Assign v value clause level) none =
       let tests = test_of (Assign v value clause level) none in
       let known : v < length st.origins = grind (arith, nat_tests, tests.0) in
       let registered : clause < length st.clauses = grind (arith, nat_tests, tests.0) in
       let low : 1 ≤ level = grind (arith, nat_tests, tests.1.0) in
       let high : level < 2 ^ 31 = grind (arith, nat_tests, tests.1.0) in
-      IsSound-assigned st sound (record { decision = record { variable = v; value = value; derived_from = clause }; level = level })
+      IsSound-assigned st sound (record {
+        decision = record { variable = v; value = value; derived_from = clause };
+        level = level;
+      })
       (record { variable = known; clause = registered }) (low, high)
   IsSound-outcome UndoLast none = IsSound-without_newest st sound
   IsSound-outcome (UndoUntil level) none = IsSound-entries_until st sound level
@@ -116,22 +155,26 @@ module _ {N S : Type 0} (st : Store N S) (sound : IsSound st) (lawful : IsLawful
   IsSound-outcome (Rewatch c from to) none =
       let tests = test_of (Rewatch c from to) none in
       let may = passed (may_rewatch st c from to) tests.1.0 in
-      let watches = both (is_literal_in from (watched_by st c)) (not (is_literal_in to (watched_by st c)) && is_literal_in to (clause_literals st c)) may in
+      let watches = both (is_literal_in from (watched_by st c))
+      (not (is_literal_in to (watched_by st c)) && is_literal_in to (clause_literals st c)) may in
       let other = both (not (is_literal_in to (watched_by st c))) (is_literal_in to (clause_literals st c)) watches.1 in
       IsSound-rewatched st sound c from to watches.0 (failed (is_literal_in to (watched_by st c)) other.0) other.1
   IsSound-outcome (Watchers l) none = sound
   IsSound-outcome (Saturate level) none = sound
   IsSound-outcome Decide none = sound
   IsSound-outcome (Disjunction ls condition) none =
-      let tests = both (list_all (knows_literal st) ls) (universe.knows_condition condition) (passed _ (test_of (Disjunction ls condition) none).0) in
+      let tests = both (list_all (knows_literal st) ls) (universe.knows_condition condition)
+      (passed _ (test_of (Disjunction ls condition) none).0) in
       IsSound-disjunction st sound ls condition (literals_below (length st.origins) ls tests.0)
   IsSound-outcome (AtMostOnce name v) none = by_tracked (is_tracked nat_eq (st.trackers name) v) refl
     where
       tests : (universe.knows_name name ≡ true) × ((knows_variable st v && not (is_helper_among st.origins v)) ≡ true)
-      tests = both (universe.knows_name name) (knows_variable st v && not (is_helper_among st.origins v)) (passed _ (test_of (AtMostOnce name v) none).0)
+      tests = both (universe.knows_name name) (knows_variable st v && not (is_helper_among st.origins v))
+          (passed _ (test_of (AtMostOnce name v) none).0)
 
       by_tracked : (b : Bool) → is_tracked nat_eq (st.trackers name) v ≡ b
-          → IsSound (cond {A = Outcome N S} b (record { reply = TrackedAs false 0; store = st }) (record { reply = TrackedAs true (length (tracking st name v)); store = with_tracked st name v })).store
+          → IsSound (cond {A = Outcome N S} b (record { reply = TrackedAs false 0; store = st })
+          (record { reply = TrackedAs true (length (tracking st name v)); store = with_tracked st name v })).store
       by_tracked true e = sound
       by_tracked false e =
           let variable = both (knows_variable st v) (not (is_helper_among st.origins v)) tests.1 in
@@ -170,7 +213,12 @@ module _ {N S : Type 0} where
     watched = refl;
     own = λ c l h. (let no : false ≡ true = h in cc);
     exact = record { two = λ c. tt; once = λ l. none_watch; stands = λ l c. refl };
-    tracked = λ name. record { adds = tracking_of.none; variables = All-nil (λ v. v < 1); helpers = All-nil (λ h. is_helper_among {N = N} {S = S} (RootOrigin ∷ []) h ≡ true) };
+    tracked = λ name. record {
+      adds = tracking_of.none;
+      variables = All-nil (λ v. v < 1);
+      helpers =
+          All-nil (λ h. is_helper_among {N = N} {S = S} (RootOrigin ∷ []) h ≡ true);
+    };
     clauses = All-nil (IsRegistered (new_store p));
     place = omega arith;
     trail = record { once = tt; levels = All-nil HasLevel };
@@ -178,7 +226,8 @@ module _ {N S : Type 0} where
   }
 
   -- a step of a command but Saturate leaves the store, or leads to the outcome of a command that nothing refuses
-  pub step_store : (old new : Store N S) (c : Command N S) (reply : Reply) → is_saturate c ≡ false → Step old c reply new
+  pub step_store : (old new : Store N S) (c : Command N S) (reply : Reply) → is_saturate c ≡ false →
+      Step old c reply new
       → (new ≡ old) ⊎ ((first_refusal old c ≡ None) × (new ≡ (outcome old c).store))
   step_store old new c reply plain step = by_refusal (first_refusal old c) step
     where
@@ -186,9 +235,14 @@ module _ {N S : Type 0} where
       by_reply (Refused e) h = inl h.1
       by_reply _ h = inr h.2
 
-      by_refusal : (x : Option StoreError) → MatchOption x (IsAnswered old c reply new) (λ e. (reply ≡ Refused e) × (new ≡ old))
+      by_refusal : (x : Option StoreError) → MatchOption x (IsAnswered old c reply new) (λ e. (reply ≡ Refused e)
+          × (new ≡ old))
           → (new ≡ old) ⊎ ((x ≡ None) × (new ≡ (outcome old c).store))
-      by_refusal None h = elim (by_reply reply (has_outcome old new c reply plain h)) [ inl same ↦ inl same | inr done ↦ inr (refl, done) ]
+      by_refusal None h = elim (by_reply reply (has_outcome old new c reply plain h)) [
+        | inl same ↦
+            inl same
+        | inr done ↦ inr (refl, done)
+      ]
       by_refusal (Some e) h = inl h.1
 
   -- a Saturate leaves it, or its level is in range and the store is saturated
@@ -199,7 +253,8 @@ module _ {N S : Type 0} where
     | inr is ↦ inr (is.0, saturated_so_far level old new reply is.1)
   ]
 
-  pub IsSound-step : {old new : Store N S} (c : Command N S) (reply : Reply) → IsLawful old.provider → IsSound old → Step old c reply new → IsSound new
+  pub IsSound-step : {old new : Store N S} (c : Command N S) (reply : Reply) → IsLawful old.provider → IsSound old →
+      Step old c reply new → IsSound new
   IsSound-step {old} {new} c reply lawful sound step = by_command c step
     where
       same : new ≡ old → IsSound new
@@ -214,7 +269,8 @@ module _ {N S : Type 0} where
       saturating : (level : ℕ) → Step old (Saturate level) reply new → IsSound new
       saturating level s = elim (step_saturated old new level reply s) [
         | inl left ↦ same left
-        | inr done ↦ (let test = done.0 in let low : 1 ≤ level = grind (arith, nat_tests, test) in let high : level < 2 ^ 31 = grind (arith, nat_tests, test) in
+        | inr done ↦ (let test = done.0 in let low : 1 ≤ level = grind (arith, nat_tests, test) in
+            let high : level < 2 ^ 31 = grind (arith, nat_tests, test) in
             IsSound-saturated level old new (low, high) sound done.1)
       ]
 
@@ -239,13 +295,19 @@ module _ {N S : Type 0} where
       by_bits s [] = refl
       by_bits s (c ∷ cs) = by_bits (adds_clause s (forbidding name c)).store cs
 
-      by_tracked : (b : Bool) → (cond {A = Outcome N S} b (record { reply = TrackedAs false 0; store = st }) (record { reply = TrackedAs true (length (tracking st name v)); store = with_tracked st name v })).store.provider ≡ st.provider
+      by_tracked : (b : Bool) → (cond {A = Outcome N S} b (record { reply = TrackedAs false 0; store = st })
+          (record {
+            reply = TrackedAs true (length (tracking st name v));
+            store =
+                with_tracked st name v;
+          })).store.provider ≡ st.provider
       by_tracked true = refl
       by_tracked false = by_bits _ (tracking st name v)
   outcome_provider st _ = refl
 
   -- a step leaves the provider
-  pub step_provider : (old new : Store N S) (c : Command N S) (reply : Reply) → Step old c reply new → new.provider ≡ old.provider
+  pub step_provider : (old new : Store N S) (c : Command N S) (reply : Reply) → Step old c reply new →
+      new.provider ≡ old.provider
   step_provider old new c reply step = by_command c step
     where
       plainly : (d : Command N S) → is_saturate d ≡ false → Step old d reply new → new.provider ≡ old.provider
@@ -261,12 +323,15 @@ module _ {N S : Type 0} where
       ]
       by_command d s = plainly d refl s
 
-  run_sound : (old new : Store N S) (cs : List (Command N S)) (replies : List Reply) → IsLawful old.provider → IsSound old → Run old cs replies new → IsSound new
+  run_sound : (old new : Store N S) (cs : List (Command N S)) (replies : List Reply) → IsLawful old.provider →
+      IsSound old → Run old cs replies new → IsSound new
   run_sound old new [] [] lawful sound ran = subst (λ st. IsSound st) (sym ran) sound
   run_sound old new (c ∷ cs) (reply ∷ replies) lawful sound ran =
-      run_sound ran.0 new cs replies (subst (λ p. IsLawful p) (sym (step_provider old ran.0 c reply ran.1)) lawful) (IsSound-step c reply lawful sound ran.1) ran.2
+      run_sound ran.0 new cs replies (subst (λ p. IsLawful p) (sym (step_provider old ran.0 c reply ran.1)) lawful)
+      (IsSound-step c reply lawful sound ran.1) ran.2
   run_sound old new [] (reply ∷ replies) lawful sound ran = absurd ran
   run_sound old new (c ∷ cs) [] lawful sound ran = absurd ran
 
-  pub IsSound-run : {old new : Store N S} (cs : List (Command N S)) (replies : List Reply) → IsLawful old.provider → IsSound old → Run old cs replies new → IsSound new
+  pub IsSound-run : {old new : Store N S} (cs : List (Command N S)) (replies : List Reply) → IsLawful old.provider →
+      IsSound old → Run old cs replies new → IsSound new
   IsSound-run {old} {new} cs replies lawful sound ran = run_sound old new cs replies lawful sound ran

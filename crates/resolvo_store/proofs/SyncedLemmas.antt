@@ -1,10 +1,13 @@
 -- A queue stays in step with a trail, whatever is done with either. N are the names of packages, H the sets of them.
-use Rattle.std.proofs.Common.{◌≡◌, ℕ, zero, suc, ◌≤◌, Bool, true, false, cond, List, [], ◌∷◌, ◌++◌, length, refl, arith, sym, subst, ap, ◌∙◌}
+use Rattle.std.proofs.Common.{◌≡◌, ℕ, zero, suc, ◌≤◌, Bool, true, false, cond, List, [], ◌∷◌, ◌++◌, length, refl}
+use Rattle.std.proofs.Common.{arith, sym, subst, ap, ◌∙◌}
 use Rattle.std.specs.Prelude.{◌-◌, min, take, nat_lt}
 use Rattle.std.specs.List.{list_all}
-use Rattle.std.proofs.lemmas.List.{length-map, length-append, take-append-le, take-map, map-append, append-nil, append_assoc}
+use Rattle.std.proofs.lemmas.List.{length-map, length-append, take-append-le, take-map, map-append, append-nil}
+use Rattle.std.proofs.lemmas.List.{append_assoc}
 use Rattle.decisions.specs.Literals.{Lit}
-use Rattle.decisions.specs.Trail.{Entry, Trail, pushed, cut_to, undo_last, undo_until, entries_until, propagated, floor_taken}
+use Rattle.decisions.specs.Trail.{Entry, Trail, pushed, cut_to, undo_last, undo_until, entries_until, propagated}
+use Rattle.decisions.specs.Trail.{floor_taken}
 use Rattle.decisions.specs.declared.decision.Decision.{Decision}
 use Rattle.watch_map.specs.Saturation.{HasImplied}
 use Rattle.resolvo_queue.specs.Queue.{Queue, IsNew, SameSync, IsUnchanged, IsRegistered, HasTrail, AgreesBelow}
@@ -28,7 +31,8 @@ take_front (suc i) (suc j) (x ∷ xs) h = ap (λ ys. x ∷ ys) (take_front i j x
 pub kept_front : (l : ℕ) (es : List Entry) → entries_until l es ≡ take (length (entries_until l es)) es
 kept_front l [] = refl
 kept_front l (e ∷ es) =
-    elim (list_all (λ x. nat_lt l x.level) (e ∷ es)) as (λ b. cond b [] (e ∷ entries_until l es) ≡ take (length (cond b [] (e ∷ entries_until l es))) (e ∷ es))
+    elim (list_all (λ x. nat_lt l x.level) (e ∷ es)) as (λ b. cond b [] (e ∷ entries_until l es)
+    ≡ take (length (cond b [] (e ∷ entries_until l es))) (e ∷ es))
     [ true ↦ refl | false ↦ ap (λ ys. e ∷ ys) (kept_front l es) ]
 
 -- two lists that are the same at first are, where either is cut
@@ -43,12 +47,15 @@ agrees_shorter floor m before now is =
 module _ {N H : Type 0} {q : Queue N H} where
   -- ---- another trail
 
-  in_step_front : (t : Trail) (m : ℕ) {kept : List Entry} → kept ≡ take m t.entries → IsInStep q t → IsInStep q (cut_to t kept)
+  in_step_front : (t : Trail) (m : ℕ) {kept : List Entry} → kept ≡ take m t.entries → IsInStep q t →
+      IsInStep q (cut_to t kept)
   in_step_front t m {kept} front is = subst (λ es. IsInStep q (cut_to t es)) (sym front) (record {
     within = omega arith;
     agrees = λ accepted.
-        subst (λ n. AgreesBelow (min t.floor n) (decisions_of (take m t.entries)) q) (length-map (take m t.entries) (λ e. e.decision))
-        (subst (λ ds. AgreesBelow (min t.floor (length ds)) ds q) (take-map (λ e. e.decision) m t.entries) (agrees_shorter t.floor m q.trail (decisions_of t.entries) (is.agrees accepted)));
+        subst (λ n. AgreesBelow (min t.floor n) (decisions_of (take m t.entries)) q)
+        (length-map (take m t.entries) (λ e. e.decision))
+        (subst (λ ds. AgreesBelow (min t.floor (length ds)) ds q) (take-map (λ e. e.decision) m t.entries)
+        (agrees_shorter t.floor m q.trail (decisions_of t.entries) (is.agrees accepted)));
   })
 
   pub in_step-undo_last : (t : Trail) → IsInStep q t → IsInStep q (undo_last t)
@@ -59,26 +66,32 @@ module _ {N H : Type 0} {q : Queue N H} where
 
   pub in_step-pushed : (t : Trail) (e : Entry) → IsInStep q t → IsInStep q (pushed t e)
   in_step-pushed t e is =
-      let within : t.floor ≤ length (decisions_of t.entries) = subst (λ n. t.floor ≤ n) (sym (length-map t.entries (λ x. x.decision))) is.within in
+      let within : t.floor ≤ length (decisions_of t.entries) =
+      subst (λ n. t.floor ≤ n) (sym (length-map t.entries (λ x. x.decision))) is.within in
       let same : take t.floor (decisions_of (t.entries ++ e ∷ [])) ≡ take t.floor (decisions_of t.entries) =
-      ap (take t.floor) (map-append (λ x. x.decision) t.entries (e ∷ [])) ∙ take-append-le t.floor (decisions_of t.entries) (e.decision ∷ []) within in
+      ap (take t.floor) (map-append (λ x. x.decision) t.entries (e ∷ []))
+      ∙ take-append-le t.floor (decisions_of t.entries) (e.decision ∷ []) within in
       record {
         within = omega (arith, is.within, length-append t.entries (e ∷ []));
         agrees = λ accepted. is.agrees accepted ∙ sym same;
       }
 
   -- more entries, one after another
-  in_step-more : (t : Trail) (added : List Entry) → IsInStep q t → IsInStep q (record t { entries = t.entries ++ added })
+  in_step-more : (t : Trail) (added : List Entry) → IsInStep q t →
+      IsInStep q (record t { entries = t.entries ++ added })
   in_step-more t [] is = subst (λ es. IsInStep q (record t { entries = es })) (sym (append-nil t.entries)) is
   in_step-more t (e ∷ added) is =
-      subst (λ es. IsInStep q (record t { entries = es })) (append_assoc t.entries (e ∷ []) added) (in_step-more (pushed t e) added (in_step-pushed t e is))
+      subst (λ es. IsInStep q (record t { entries = es })) (append_assoc t.entries (e ∷ []) added)
+      (in_step-more (pushed t e) added (in_step-pushed t e is))
 
   -- those that clauses force
-  pub in_step-implied : {literals : ℕ → List Lit} {level : ℕ} (t new : Trail) → HasImplied literals level t new → IsInStep q t → IsInStep q new
+  pub in_step-implied : {literals : ℕ → List Lit} {level : ℕ} (t new : Trail) → HasImplied literals level t new →
+      IsInStep q t → IsInStep q new
   in_step-implied t new implied is =
       let more = in_step-more t implied.added is in
       subst (λ es. IsInStep q (record new { entries = es })) (sym implied.entries)
-      (subst (λ n. IsInStep q (record new { entries = t.entries ++ implied.added; floor = n })) (sym implied.floor) (record { within = more.within; agrees = more.agrees }))
+      (subst (λ n. IsInStep q (record new { entries = t.entries ++ implied.added; floor = n })) (sym implied.floor)
+      (record { within = more.within; agrees = more.agrees }))
 
   pub in_step-propagated : (t : Trail) → IsInStep q t → IsInStep q (propagated t)
   in_step-propagated t is = record { within = is.within; agrees = is.agrees }
@@ -104,7 +117,8 @@ module _ {N H : Type 0} {has : H → N → Bool} where
   in_step-unchanged t same is = in_step-same t same.synced is
 
   -- one clause more
-  pub in_step-registered : {old new : Queue N H} (t : Trail) (clause : RequiresClause) (names : List N) → IsRegistered has clause names old new
+  pub in_step-registered : {old new : Queue N H} (t : Trail) (clause : RequiresClause) (names : List N) →
+      IsRegistered has clause names old new
       → IsInStep old t → IsInStep new t
   in_step-registered t clause names more is = record {
     within = is.within;
@@ -121,4 +135,8 @@ module _ {N H : Type 0} where
 
   -- a refused one
   pub in_step-refused : {q : Queue N H} (t : Trail) → q.must_start_anew ≡ true → IsInStep q (floor_taken t)
-  in_step-refused t refused = record { within = omega arith; agrees = λ accepted. (let no : true ≡ false = sym refused ∙ accepted in cc) }
+  in_step-refused t refused = record {
+    within = omega arith;
+    agrees =
+        λ accepted. (let no : true ≡ false = sym refused ∙ accepted in cc);
+  }

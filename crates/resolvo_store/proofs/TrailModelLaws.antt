@@ -1,6 +1,8 @@
--- Where all clauses are settled and the store is solved, the truth values that the trail says, all else false, are a model. N
+-- Where all clauses are settled and the store is solved, the truth values that the trail says, all else false, are a
+-- model. N
 -- are the names, S the solvables.
-use Rattle.std.proofs.Common.{◌≡◌, ℕ, suc, ◌+◌, ◌<◌, Bool, true, false, not, List, [], ◌∷◌, ◌++◌, length, map, Option, Some, None, refl, sym, ap, subst, ◌∙◌, arith}
+use Rattle.std.proofs.Common.{◌≡◌, ℕ, suc, ◌+◌, ◌<◌, Bool, true, false, not, List, [], ◌∷◌, ◌++◌, length, map, Option}
+use Rattle.std.proofs.Common.{Some, None, refl, sym, ap, subst, ◌∙◌, arith}
 use Rattle.std.specs.Prelude.{All, ◌&&◌, ◌||◌, slice_get, flat_map, option_map, unwrap_or}
 use Rattle.std.specs.List.{list_any, list_all}
 use Rattle.std.proofs.lemmas.List.Folds.{list_any-append}
@@ -46,7 +48,8 @@ negation_denied (Some true) h = refl
 negation_denied (Some false) h = h
 
 -- what is neither false nor undecided is true
-decided_true : (now : Values) (l : Lit) → is_false_literal now l ≡ false → undecided (truth now l) ≡ false → is_true_literal (true_alone now) l ≡ true
+decided_true : (now : Values) (l : Lit) → is_false_literal now l ≡ false → undecided (truth now l) ≡ false →
+    is_true_literal (true_alone now) l ≡ true
 decided_true now (Pos v) h u = by_value (now v) h u
   where
     by_value : (o : Option Bool) → known_false o ≡ false → undecided o ≡ false → known_true o ≡ true
@@ -60,27 +63,35 @@ module _ (now : Values) where
   true_now = is_true_literal (true_alone now)
 
   -- all are false where the others are, and this one is
-  all_false : (l : Lit) (ls : List Lit) → are_others_false now ls l ≡ true → is_false_literal now l ≡ true → is_false now ls ≡ true
+  all_false : (l : Lit) (ls : List Lit) → are_others_false now ls l ≡ true → is_false_literal now l ≡ true →
+      is_false now ls ≡ true
   all_false l [] others f = refl
-  all_false l (m ∷ ls) others f = by_literal (same_literal m l) refl (is_false_literal now m) refl (λ h. all_false l ls h f) others
+  all_false l (m ∷ ls) others f =
+      by_literal (same_literal m l) refl (is_false_literal now m) refl (λ h. all_false l ls h f) others
     where
-      by_literal : (s : Bool) → same_literal m l ≡ s → (t : Bool) → is_false_literal now m ≡ t → (are_others_false now ls l ≡ true → is_false now ls ≡ true)
+      by_literal : (s : Bool) → same_literal m l ≡ s → (t : Bool) → is_false_literal now m ≡ t →
+          (are_others_false now ls l ≡ true → is_false now ls ≡ true)
           → ((s || t) && are_others_false now ls l) ≡ true → (t && is_false now ls) ≡ true
       by_literal true e true k later h = later h
       by_literal false e true k later h = later h
-      by_literal true e false k later h = (let no : false ≡ true = sym k ∙ ap (is_false_literal now) (same_is m l e) ∙ f in cc)
+      by_literal true e false k later h = (let no : false ≡ true = sym k ∙ ap (is_false_literal now) (same_is m l e)
+          ∙ f in cc)
       by_literal false e false k later h = (let no : false ≡ true = h in cc)
 
   -- of a settled clause, a literal beside which all are false is true
-  left_true : (l : Lit) (ls : List Lit) → IsSettled now ls → is_literal_in l ls ≡ true → are_others_false now ls l ≡ true → true_now l ≡ true
+  left_true : (l : Lit) (ls : List Lit) → IsSettled now ls → is_literal_in l ls ≡ true →
+      are_others_false now ls l ≡ true → true_now l ≡ true
   left_true l ls settled own others = decided_true now l (by_test (is_false_literal now l) refl) (decided (settled.1 l))
     where
       by_test : (b : Bool) → is_false_literal now l ≡ b → b ≡ false
       by_test false f = refl
       by_test true f = sym (all_false l ls others f) ∙ settled.0
 
-      decided : (is_literal_in l ls && (undecided (truth now l) && are_others_false now ls l)) ≡ false → undecided (truth now l) ≡ false
-      decided h = by_undecided (undecided (truth now l)) (sym (ap (λ b. b && (undecided (truth now l) && are_others_false now ls l)) own ∙ ap (λ b. undecided (truth now l) && b) others) ∙ h)
+      decided : (is_literal_in l ls && (undecided (truth now l) && are_others_false now ls l)) ≡ false →
+          undecided (truth now l) ≡ false
+      decided h = by_undecided (undecided (truth now l)) (sym
+          (ap (λ b. b && (undecided (truth now l) && are_others_false now ls l)) own
+          ∙ ap (λ b. undecided (truth now l) && b) others) ∙ h)
         where
           by_undecided : (u : Bool) → (u && true) ≡ false → u ≡ false
           by_undecided true k = k
@@ -96,7 +107,8 @@ module _ (now : Values) where
   one_met : (l : Lit) → IsSettled now (l ∷ []) → IsMetNow (l ∷ [])
   one_met l settled =
       let own : is_literal_in l (l ∷ []) ≡ true = ap (λ b. b || false) (same_self l) in
-      met_by l (l ∷ []) own (left_true l (l ∷ []) settled own (ap (λ b. (b || is_false_literal now l) && true) (same_self l)))
+      met_by l (l ∷ []) own (left_true l (l ∷ []) settled own
+      (ap (λ b. (b || is_false_literal now l) && true) (same_self l)))
 
   -- of two literals one is a negation
   two_met : (a : ℕ) (m : Lit) → IsSettled now (Neg a ∷ m ∷ []) → IsMetNow (Neg a ∷ m ∷ [])
@@ -110,7 +122,8 @@ module _ (now : Values) where
       by_test true f =
           met_by m (Neg a ∷ m ∷ []) own (left_true m (Neg a ∷ m ∷ []) settled own
           (ap (λ b. (same_literal (Neg a) m || b) && ((same_literal m m || is_false_literal now m) && true)) f
-          ∙ ap (λ b. b && ((same_literal m m || is_false_literal now m) && true)) (holds_either (same_literal (Neg a) m) true refl)
+          ∙ ap (λ b. b && ((same_literal m m || is_false_literal now m) && true))
+          (holds_either (same_literal (Neg a) m) true refl)
           ∙ ap (λ b. (b || is_false_literal now m) && true) (same_self m)))
 
   two_met_last : (m : Lit) (a : ℕ) → IsSettled now (m ∷ Neg a ∷ []) → IsMetNow (m ∷ Neg a ∷ [])
@@ -120,11 +133,14 @@ module _ (now : Values) where
       own = ap (λ b. b || (same_literal m (Neg a) || false)) (same_self m)
 
       by_test : (b : Bool) → is_false_literal now (Neg a) ≡ b → IsMetNow (m ∷ Neg a ∷ [])
-      by_test false f = holds_either (true_now m) (true_now (Neg a) || false) (ap (λ b. b || false) (negation_true (now a) f))
+      by_test false f = holds_either (true_now m) (true_now (Neg a) || false)
+          (ap (λ b. b || false) (negation_true (now a) f))
       by_test true f =
           met_by m (m ∷ Neg a ∷ []) own (left_true m (m ∷ Neg a ∷ []) settled own
-          (ap (λ b. (b || is_false_literal now m) && ((same_literal (Neg a) m || is_false_literal now (Neg a)) && true)) (same_self m)
-          ∙ ap (λ b. (same_literal (Neg a) m || b) && true) f ∙ ap (λ b. b && true) (holds_either (same_literal (Neg a) m) true refl)))
+          (ap (λ b. (b || is_false_literal now m) && ((same_literal (Neg a) m || is_false_literal now (Neg a))
+          && true)) (same_self m)
+          ∙ ap (λ b. (same_literal (Neg a) m || b) && true) f
+          ∙ ap (λ b. b && true) (holds_either (same_literal (Neg a) m) true refl)))
 
   -- among negations one that isn't false is true
   negations_met : (ls : List Lit) → list_all is_negation ls ≡ true → is_false now ls ≡ false → IsMetNow ls
@@ -132,27 +148,34 @@ module _ (now : Values) where
   negations_met (Pos v ∷ ls) negations h = (let no : false ≡ true = negations in cc)
   negations_met (Neg v ∷ ls) negations h = by_test (is_false_literal now (Neg v)) refl (negations_met ls negations) h
     where
-      by_test : (b : Bool) → is_false_literal now (Neg v) ≡ b → (is_false now ls ≡ false → IsMetNow ls) → (b && is_false now ls) ≡ false → IsMetNow (Neg v ∷ ls)
+      by_test : (b : Bool) → is_false_literal now (Neg v) ≡ b → (is_false now ls ≡ false → IsMetNow ls) →
+          (b && is_false now ls) ≡ false → IsMetNow (Neg v ∷ ls)
       by_test true f later k = holds_either (true_now (Neg v)) (list_any true_now ls) (later k)
       by_test false f later k = ap (λ b. b || list_any true_now ls) (negation_true (now v) f)
 
-  list_true : (s : VersionSetId) (l : List ℕ) → list_any (λ row. known_true (now row.variable)) (list_rows s l) ≡ list_any true_now (map Pos l)
+  list_true : (s : VersionSetId) (l : List ℕ) → list_any (λ row. known_true (now row.variable)) (list_rows s l)
+      ≡ list_any true_now (map Pos l)
   list_true s [] = refl
   list_true s (x ∷ l) = ap (λ b. known_true (now x) || b) (list_true s l)
 
   -- rows of which one is true are of candidates of which one is
-  row_true : (sets : List VersionSetId) (lists : List (List ℕ)) → has_true_row now (rows sets lists) ≡ true → IsMetNow (flat_map (map Pos) lists)
+  row_true : (sets : List VersionSetId) (lists : List (List ℕ)) → has_true_row now (rows sets lists) ≡ true →
+      IsMetNow (flat_map (map Pos) lists)
   row_true [] [] h = h
   row_true [] (l ∷ lists) h = (let no : false ≡ true = h in cc)
   row_true (s ∷ sets) [] h = h
   row_true (s ∷ sets) (l ∷ lists) h =
       list_any-append true_now (map Pos l) (flat_map (map Pos) lists)
-      ∙ by_list (list_any true_now (map Pos l)) refl (row_true sets lists) (sym (list_any-append (λ row. known_true (now row.variable)) (list_rows s l) (rows sets lists)) ∙ h)
+      ∙ by_list (list_any true_now (map Pos l)) refl (row_true sets lists)
+      (sym (list_any-append (λ row. known_true (now row.variable)) (list_rows s l) (rows sets lists)) ∙ h)
     where
-      by_list : (b : Bool) → list_any true_now (map Pos l) ≡ b → (has_true_row now (rows sets lists) ≡ true → IsMetNow (flat_map (map Pos) lists)) → (list_any (λ row. known_true (now row.variable)) (list_rows s l) || has_true_row now (rows sets lists)) ≡ true
+      by_list : (b : Bool) → list_any true_now (map Pos l) ≡ b →
+          (has_true_row now (rows sets lists) ≡ true → IsMetNow (flat_map (map Pos) lists)) →
+          (list_any (λ row. known_true (now row.variable)) (list_rows s l) || has_true_row now (rows sets lists)) ≡ true
           → (b || list_any true_now (flat_map (map Pos) lists)) ≡ true
       by_list true t later k = refl
-      by_list false t later k = later (subst (λ b. (b || has_true_row now (rows sets lists)) ≡ true) (list_true s l ∙ t) k)
+      by_list false t later k = later (subst (λ b. (b || has_true_row now (rows sets lists)) ≡ true) (list_true s l
+          ∙ t) k)
 
 module _ {N S : Type 0} (st : Store N S) (sound : IsSound st) (settled : HasSettled st) (solved : IsSolved st) where
   abbrev now : Values
@@ -160,10 +183,12 @@ module _ {N S : Type 0} (st : Store N S) (sound : IsSound st) (settled : HasSett
 
   -- what a solved store says of a clause that requires
   abbrev IsServed : RequiresClause → Type 0
-  IsServed c = known_true (now c.parent) ≡ true → are_literals_false now (condition_of st c.condition) ≡ true → has_true_row now (rows_of st c.requirement) ≡ true
+  IsServed c = known_true (now c.parent) ≡ true → are_literals_false now (condition_of st c.condition) ≡ true →
+      has_true_row now (rows_of st c.requirement) ≡ true
 
   requires_met : (c : RequiresClause) → IsServed c → list_all is_negation (condition_of st c.condition) ≡ true
-      → IsMetNow now (Neg c.parent ∷ (condition_of st c.condition ++ flat_map (map Pos) (unwrap_or (lists_of st c.requirement) [])))
+      → IsMetNow now (Neg c.parent ∷ (condition_of st c.condition ++ flat_map (map Pos)
+      (unwrap_or (lists_of st c.requirement) [])))
   requires_met c served negations = by_parent (is_false_literal now (Neg c.parent)) refl
     where
       condition : List Lit
@@ -172,23 +197,30 @@ module _ {N S : Type 0} (st : Store N S) (sound : IsSound st) (settled : HasSett
       candidates : List Lit
       candidates = flat_map (map Pos) (unwrap_or (lists_of st c.requirement) [])
 
-      by_condition : (b : Bool) → are_literals_false now condition ≡ b → known_true (now c.parent) ≡ true → (list_any (true_now now) condition || list_any (true_now now) candidates) ≡ true
+      by_condition : (b : Bool) → are_literals_false now condition ≡ b → known_true (now c.parent) ≡ true →
+          (list_any (true_now now) condition || list_any (true_now now) candidates) ≡ true
       by_condition true f p =
           holds_either (list_any (true_now now) condition) (list_any (true_now now) candidates)
-          (row_true now (sets_of st.provider.universe c.requirement) (unwrap_or (lists_of st c.requirement) []) (served p f))
-      by_condition false f p = ap (λ b. b || list_any (true_now now) candidates) (negations_met now condition negations f)
+          (row_true now (sets_of st.provider.universe c.requirement) (unwrap_or (lists_of st c.requirement) [])
+          (served p f))
+      by_condition false f p = ap (λ b. b || list_any (true_now now) candidates)
+          (negations_met now condition negations f)
 
-      by_parent : (b : Bool) → is_false_literal now (Neg c.parent) ≡ b → IsMetNow now (Neg c.parent ∷ (condition ++ candidates))
-      by_parent false f = ap (λ b. b || list_any (true_now now) (condition ++ candidates)) (negation_true (now c.parent) f)
+      by_parent : (b : Bool) → is_false_literal now (Neg c.parent) ≡ b →
+          IsMetNow now (Neg c.parent ∷ (condition ++ candidates))
+      by_parent false f = ap (λ b. b || list_any (true_now now) (condition ++ candidates))
+          (negation_true (now c.parent) f)
       by_parent true f =
           holds_either (true_now now (Neg c.parent)) (list_any (true_now now) (condition ++ candidates))
-          (list_any-append (true_now now) condition candidates ∙ by_condition (are_literals_false now condition) refl (negation_denied (now c.parent) f))
+          (list_any-append (true_now now) condition candidates
+          ∙ by_condition (are_literals_false now condition) refl (negation_denied (now c.parent) f))
 
   abbrev IsMetClause : Clause N → Type 0
   IsMetClause c = is_satisfied st (true_alone now) c ≡ true
 
   -- a clause of another kind is met where it is settled
-  other_met : (c : Clause N) → requires_from 0 (c ∷ []) ≡ [] → IsSettled now (literals_of (stored_of st) c) → MayLeaveFalse st c → IsMetClause c
+  other_met : (c : Clause N) → requires_from 0 (c ∷ []) ≡ [] → IsSettled now (literals_of (stored_of st) c) →
+      MayLeaveFalse st c → IsMetClause c
   other_met Kind.InstallRoot other s n = one_met now (Pos 0) s
   other_met (Kind.Requires parent d r) other s n = cc
   other_met (Kind.ForbidMultipleInstances a l name) other s n = two_met now a l s
@@ -205,14 +237,19 @@ module _ {N S : Type 0} (st : Store N S) (sound : IsSound st) (settled : HasSett
   trail_is_model negated = go st.clauses 0 negated (subst (λ cs. All IsServed cs) sound.registered solved) settled
     where
       go : (cs : List (Clause N)) (id : ℕ) → All (MayLeaveFalse st) cs → All IsServed (requires_from id cs)
-          → ((i : ℕ) → i < length cs → IsSettled now (unwrap_or (option_map (literals_of (stored_of st)) (slice_get cs i)) [])) → All IsMetClause cs
+          → ((i : ℕ) → i < length cs → IsSettled now
+          (unwrap_or (option_map (literals_of (stored_of st)) (slice_get cs i)) [])) → All IsMetClause cs
       go [] id negated served settled = All-nil IsMetClause
       go (Kind.Requires parent d r ∷ cs) id negated served settled =
           let c : RequiresClause = record { parent = parent; requirement = r; condition = d; clause_id = id } in
           All-cons IsMetClause (Kind.Requires parent d r) cs
-          (requires_met c (All-head IsServed c (requires_from (id + 1) cs) served) (All-head (MayLeaveFalse st) (Kind.Requires parent d r) cs negated))
-          (go cs (id + 1) (All-tail (MayLeaveFalse st) (Kind.Requires parent d r) cs negated) (All-tail IsServed c (requires_from (id + 1) cs) served)
+          (requires_met c (All-head IsServed c (requires_from (id + 1) cs) served)
+          (All-head (MayLeaveFalse st) (Kind.Requires parent d r) cs negated))
+          (go cs (id + 1) (All-tail (MayLeaveFalse st) (Kind.Requires parent d r) cs negated)
+          (All-tail IsServed c (requires_from (id + 1) cs) served)
           (λ i below. settled (suc i) (omega (arith, below))))
       go (c ∷ cs) id negated served settled =
-          All-cons IsMetClause c cs (other_met c refl (settled 0 (omega arith)) (All-head (MayLeaveFalse st) c cs negated))
-          (go cs (id + 1) (All-tail (MayLeaveFalse st) c cs negated) served (λ i below. settled (suc i) (omega (arith, below))))
+          All-cons IsMetClause c cs (other_met c refl (settled 0 (omega arith))
+          (All-head (MayLeaveFalse st) c cs negated))
+          (go cs (id + 1) (All-tail (MayLeaveFalse st) c cs negated) served
+          (λ i below. settled (suc i) (omega (arith, below))))

@@ -1,5 +1,6 @@
 -- What the calls on a store's queue walk and owe. N are the names, S the solvables.
-use Rattle.std.proofs.Common.{◌≡◌, ℕ, ◌+◌, ◌≤◌, ◌<◌, ◌⊎◌, inl, Bool, false, List, length, drop, get_or, Result, Ok, Err, refl, sym, subst, ap, ◌∙◌, arith}
+use Rattle.std.proofs.Common.{◌≡◌, ℕ, ◌+◌, ◌≤◌, ◌<◌, ◌⊎◌, inl, Bool, false, List, length, drop, get_or, Result, Ok}
+use Rattle.std.proofs.Common.{Err, refl, sym, subst, ap, ◌∙◌, arith}
 use Rattle.std.specs.Prelude.{All, OnOk, OnErr, unwrap_or, [], ◌++◌}
 use Rattle.std.specs.Map.{lookup}
 use Rattle.std.specs.declared.vec.Vec.{Vec}
@@ -52,19 +53,35 @@ module _ {N Q : Type 0} (queue q : Queue N Q) (trail : Trail) where
   walks_still same walked owes = record { walks = walked; owed = owes; in_sync = told_still same }
 
   -- a clause was to be registered
-  pub owes_registered : {T E : Type 0} (has : Q → N → Bool) (result : Result T E) (clause : RequiresClause) (names : List N) →
-      OnOk result (IsRegistered has clause names queue q) → OnErr result (IsUnchanged queue q has) → SameValues (walks queue) (walks q) →
-      ((r : Requirement) → (owed q r ≡ owed queue r) ⊎ ((r ≡ clause.requirement) × (owed queue r ≡ 0) × (owed q r ≡ 1))) →
+  pub owes_registered : {T E : Type 0} (has : Q → N → Bool) (result : Result T E) (clause : RequiresClause)
+      (names : List N) →
+      OnOk result (IsRegistered has clause names queue q) → OnErr result (IsUnchanged queue q has) →
+      SameValues (walks queue) (walks q) →
+      ((r : Requirement) → (owed q r ≡ owed queue r) ⊎ ((r ≡ clause.requirement) × (owed queue r ≡ 0)
+      × (owed q r ≡ 1))) →
       OwesFirst clause.requirement (queue_state_of queue trail) (queue_state_of q trail)
   owes_registered has (Ok x) clause names registered same walked owes =
-      record { walks = walked; owed = owes; in_sync = record { trail = registered.trail; must_start_anew = registered.must_start_anew; floor = refl } }
-  owes_registered has (Err e) clause names registered same walked owes = record { walks = walked; owed = owes; in_sync = told_still same.synced }
+      record {
+        walks = walked;
+        owed = owes;
+        in_sync = record {
+          trail = registered.trail;
+          must_start_anew =
+              registered.must_start_anew;
+          floor = refl;
+        };
+      }
+  owes_registered has (Err e) clause names registered same walked owes =
+      record { walks = walked; owed = owes; in_sync = told_still same.synced }
 
 -- ---- a question
 
-module _ {D N S A H Q : Type 0} {has : Q → N → Bool} {st : Store N S} {loaded : List (Requirement × Vec (Vec ℕ A) A)} {disjunctions : List (Disjunction A)}
-    {cache : Cache D N S A H} {queue : Queue N Q} {trail : Trail} (is : IsConsistent has st loaded disjunctions cache queue trail)
-    (requires : st.requires ≡ queue.clauses) (kept : st.loaded ≡ lists_of_loaded loaded) (entries : st.trail ≡ trail.entries) where
+module _ {D N S A H Q : Type 0} {has : Q → N → Bool} {st : Store N S} {loaded : List (Requirement × Vec (Vec ℕ A) A)}
+    {disjunctions : List (Disjunction A)}
+    {cache : Cache D N S A H} {queue : Queue N Q} {trail : Trail}
+    (is : IsConsistent has st loaded disjunctions cache queue trail)
+    (requires : st.requires ≡ queue.clauses) (kept : st.loaded ≡ lists_of_loaded loaded)
+    (entries : st.trail ≡ trail.entries) where
   abbrev refs : References N S A
   refs = references st.provider.universe loaded disjunctions
 
@@ -77,9 +94,11 @@ module _ {D N S A H Q : Type 0} {has : Q → N → Bool} {st : Store N S} {loade
       ∙ sym (ap (λ f. f r) (rows-kept st.provider.universe loaded))
 
   -- the queue was told of the trail, or that was refused
-  pub asks_told : (floor : ℕ) (ds : List Decision) (q : Queue N Q) (t : Trail) → floor ≡ trail.floor → ds ≡ decisions_of trail.entries →
+  pub asks_told : (floor : ℕ) (ds : List Decision) (q : Queue N Q) (t : Trail) → floor ≡ trail.floor →
+      ds ≡ decisions_of trail.entries →
       SameValues (walks queue) (walks q) → ((r : Requirement) → owed q r ≤ owed queue r + 1) →
-      (queue.must_start_anew ≡ false → (any : References N S A) → StandsOn any queue → (r : Requirement) → IsWalkable any.universe any.lists r →
+      (queue.must_start_anew ≡ false → (any : References N S A) → StandsOn any queue → (r : Requirement) →
+      IsWalkable any.universe any.lists r →
       HasNoneOf (changed_from floor ds queue) (rows_in any r) → owed q r ≡ owed queue r) →
       WalksEachOnce st asked (queue_state_of q t)
   asks_told floor ds q t at is_trail walked owes still = record {
@@ -90,12 +109,14 @@ module _ {D N S A H Q : Type 0} {has : Q → N → Bool} {st : Store N S} {loade
   }
     where
       StillOwed : List RequiresClause → Type 0
-      StillOwed cs = All (λ c. HasNoneOf (changed_since st asked) (rows_of st c.requirement) → owed q c.requirement ≡ owed queue c.requirement) cs
+      StillOwed cs = All (λ c. HasNoneOf (changed_since st asked) (rows_of st c.requirement) →
+          owed q c.requirement ≡ owed queue c.requirement) cs
 
       changed : changed_from floor ds queue ≡ changed_since st asked
       changed =
           ap (λ n. variables_of (drop n queue.trail) ++ variables_of (drop n ds)) at
-          ∙ ap (λ es. variables_of (drop trail.floor queue.trail) ++ variables_of (drop trail.floor es)) (is_trail ∙ sym (ap decisions_of entries))
+          ∙ ap (λ es. variables_of (drop trail.floor queue.trail) ++ variables_of (drop trail.floor es)) (is_trail
+          ∙ sym (ap decisions_of entries))
 
       this : queue.must_start_anew ≡ false → (k : ℕ) (d : RequiresClause) → k < length queue.clauses →
           HasNoneOf (changed_since st asked) (rows_of st (get_or queue.clauses k d).requirement) →
@@ -103,11 +124,14 @@ module _ {D N S A H Q : Type 0} {has : Q → N → Bool} {st : Store N S} {loade
       this accepted k d within none =
           let r = (get_or queue.clauses k d).requirement in
           still accepted refs is.may_decide.stands r (can_walk is requires kept k d within)
-          (subst (λ vs. HasNoneOf vs (rows_in refs r)) (sym changed) (subst (HasNoneOf (changed_since st asked)) (rows_seen r) none))
+          (subst (λ vs. HasNoneOf vs (rows_in refs r)) (sym changed)
+          (subst (HasNoneOf (changed_since st asked)) (rows_seen r) none))
 
   -- then it was asked
-  pub asks_walked : (q n : Queue N Q) (t t' : Trail) (log log' : List Requirement) → WalksEachOnce st asked (queue_state_of q t) → SameValues (walks queue) (walks q) →
-      WalksOnce q.inside.requirements n.inside.requirements log log' → SameValues (owed q) (owed n) → WalksEachOnce st asked (queue_state_of n t')
+  pub asks_walked : (q n : Queue N Q) (t t' : Trail) (log log' : List Requirement) →
+      WalksEachOnce st asked (queue_state_of q t) → SameValues (walks queue) (walks q) →
+      WalksOnce q.inside.requirements n.inside.requirements log log' → SameValues (owed q) (owed n) →
+      WalksEachOnce st asked (queue_state_of n t')
   asks_walked q n t t' log log' queue_step walked once owes = record {
     once = λ r. (let e = walked r in let more = once.walks r in let one = once.once r in omega (arith, e, more, one));
     within = λ r. walks_within n.inside.requirements r;
@@ -116,7 +140,8 @@ module _ {D N S A H Q : Type 0} {has : Q → N → Bool} {st : Store N S} {loade
   }
 
   -- it has the trail then
-  pub told_of : (ds : List Decision) (q n : Queue N Q) (t : Trail) → t ≡ floor_taken trail → ds ≡ decisions_of t.entries → HasTrail ds q → SameSync q n → HasSynced st.trail (queue_state_of n t)
+  pub told_of : (ds : List Decision) (q n : Queue N Q) (t : Trail) → t ≡ floor_taken trail →
+      ds ≡ decisions_of t.entries → HasTrail ds q → SameSync q n → HasSynced st.trail (queue_state_of n t)
   told_of ds q n t taken is_trail told same = record {
     trail = same.trail ∙ (told.trail ∙ (is_trail ∙ ap decisions_of (ap (λ x. x.entries) taken ∙ sym entries)));
     must_start_anew = same.must_start_anew ∙ told.must_start_anew;

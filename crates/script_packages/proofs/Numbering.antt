@@ -2,5 +2,6 @@
 use Rattle.std.proofs.Common.{◌≡◌, ℕ, ◌+◌, ◌-◌, ◌<◌, ◌∷◌, suc, ap, arith}
 use Rattle.script_packages.specs.Packages.{numbers}
 
-pub numbers_more : (first end : ℕ) → first < end → numbers first (end - first) ≡ first ∷ numbers (first + 1) (end - (first + 1))
+pub numbers_more : (first end : ℕ) → first < end → numbers first (end - first)
+    ≡ first ∷ numbers (first + 1) (end - (first + 1))
 numbers_more first end lt = let e : end - first ≡ suc (end - (first + 1)) = omega arith in ap (numbers first) e

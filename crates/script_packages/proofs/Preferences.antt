@@ -1,5 +1,6 @@
 -- The order of preference is total, and tells any two solvables apart.
-use Rattle.std.proofs.Common.{◌≡◌, ℕ, List, sym, ap, true≢false, Ordering, Less, Equal, Greater, is_lt, is_gt, nat_cmp, IsPermutation, IsSorted}
+use Rattle.std.proofs.Common.{◌≡◌, ℕ, List, sym, ap, true≢false, Ordering, Less, Equal, Greater, is_lt, is_gt}
+use Rattle.std.proofs.Common.{nat_cmp, IsPermutation, IsSorted}
 use Rattle.std.specs.Cmp.{IsTotalOrder}
 use Rattle.std.specs.Ordering.{ordering_then}
 use Rattle.std.proofs.lemmas.Cmp.{ranked, nat_cmp_total, on_total, back_total, then_total}

@@ -1,5 +1,6 @@
 -- Solvables whose versions rise are in the order of preference once they are turned round.
-use Rattle.std.proofs.Common.{◌≡◌, ℕ, suc, zero, ◌+◌, ◌-◌, ◌<◌, Bool, true, false, ◌&&◌, List, [], ◌∷◌, length, get_or, refl, sym}
+use Rattle.std.proofs.Common.{◌≡◌, ℕ, suc, zero, ◌+◌, ◌-◌, ◌<◌, Bool, true, false, ◌&&◌, List, [], ◌∷◌, length}
+use Rattle.std.proofs.Common.{get_or, refl, sym}
 use Rattle.std.proofs.Common.{ap, ap₂, subst, ◌∙◌, arith, true≢false, nat_cmp, is_lt, Greater, IsSorted}
 use Rattle.std.specs.Prelude.{reverse}
 use Rattle.std.specs.Cmp.{nat_cmp_is}
@@ -17,7 +18,8 @@ module _ (all : List (Solvable ℕ)) where
   -- a solvable isn't preferred to one of a higher version
   not_preferred : (s t : ℕ) → version_at all s < version_at all t → is_lt (preference all s t) ≡ false
   not_preferred s t up =
-      ap (λ o. is_lt (ordering_then o (nat_cmp s t))) (sym (nat_cmp_is (version_at all t) (version_at all s) Greater up))
+      ap (λ o. is_lt (ordering_then o (nat_cmp s t)))
+      (sym (nat_cmp_is (version_at all t) (version_at all s) Greater up))
 
   rising : (list : List ℕ) → rises all list ≡ true → (i d : ℕ) → suc i < length list →
       version_at all (get_or list i d) < version_at all (get_or list (suc i) d)

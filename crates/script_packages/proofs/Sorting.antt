@@ -14,7 +14,8 @@ use Rattle.std.proofs.lemmas.List.Sums.{sum_by-cons}
 use Rattle.script_packages.specs.Order.{insert_sorted, sort_by}
 use Rattle.script_packages.specs.OrderLaws.{sort_by_permutes}
 
-module _ {X : Type 0} (cmp : X → X → Ordering) (total : IsTotalOrder cmp) (apart : (x y : X) → cmp x y ≡ Equal → x ≡ y) where
+module _ {X : Type 0} (cmp : X → X → Ordering) (total : IsTotalOrder cmp) (apart : (x y : X) → cmp x y ≡ Equal →
+    x ≡ y) where
   abbrev lt : X → X → Bool
   lt x y = is_lt (cmp x y)
 
@@ -48,8 +49,10 @@ module _ {X : Type 0} (cmp : X → X → Ordering) (total : IsTotalOrder cmp) (a
   ascends_from_sorted : (xs : List X) → IsSorted cmp xs → Ascends xs
   ascends_from_sorted [] sorted = tt
   ascends_from_sorted (x ∷ xs) sorted =
-      let tail : IsSorted cmp xs = λ k d p q. rw add-one (rw add-one at (sorted (suc k) d (omega arith) (omega arith))) in (
-        recursion_from_All (λ y. lt y x ≡ false) xs (λ k d below. sorted_far lt ranks (x ∷ xs) sorted 0 (suc k) d (omega arith) (omega arith)),
+      let tail : IsSorted cmp xs = λ k d p q. rw add-one (rw add-one at
+      (sorted (suc k) d (omega arith) (omega arith))) in (
+        recursion_from_All (λ y. lt y x ≡ false) xs (λ k d below. sorted_far lt ranks (x ∷ xs) sorted 0 (suc k) d
+            (omega arith) (omega arith)),
         ascends_from_sorted xs tail,
       )
 
@@ -66,7 +69,8 @@ module _ {X : Type 0} (cmp : X → X → Ordering) (total : IsTotalOrder cmp) (a
   ascends-insert_sorted x [] up = (tt, tt)
   ascends-insert_sorted x (y ∷ ys) up = go (lt y x) refl (ascends-insert_sorted x ys up.1)
     where
-      go : (b : Bool) → lt y x ≡ b → Ascends (insert_sorted cmp x ys) → Ascends (if b then y ∷ insert_sorted cmp x ys else x ∷ y ∷ ys)
+      go : (b : Bool) → lt y x ≡ b → Ascends (insert_sorted cmp x ys) →
+          Ascends (if b then y ∷ insert_sorted cmp x ys else x ∷ y ∷ ys)
       go true e more = (least-insert_sorted y x ys (ranks.one_way y x e) up.0, more)
       go false e more = ((e, least_of_lesser x y ys e up.0), up)
 
@@ -91,7 +95,8 @@ module _ {X : Type 0} (cmp : X → X → Ordering) (total : IsTotalOrder cmp) (a
       go false e = refl
 
   -- the first of a list that ascends is not more than the first of another with the same members
-  not_less : (x : X) (xs : List X) (y : X) (ys : List X) → Ascends (x ∷ xs) → ((f : X → ℕ) → sum_by f (y ∷ ys) ≡ sum_by f (x ∷ xs)) → lt y x ≡ false
+  not_less : (x : X) (xs : List X) (y : X) (ys : List X) → Ascends (x ∷ xs) →
+      ((f : X → ℕ) → sum_by f (y ∷ ys) ≡ sum_by f (x ∷ xs)) → lt y x ≡ false
   not_less x xs y ys up counts =
       let itself : lt x x ≡ false = ap is_lt (tied_itself total x) in
       first_not_less x y ys (counts (λ z. cond (lt z x) 1 0) ∙ none_lesser x (x ∷ xs) (itself, up.0))
@@ -102,10 +107,12 @@ module _ {X : Type 0} (cmp : X → X → Ordering) (total : IsTotalOrder cmp) (a
   one_order (x ∷ xs) [] up down counts = absurd (omega (arith, counts (λ _. 1), sum_by-cons (λ _. 1) x xs))
   one_order (x ∷ xs) (y ∷ ys) up down counts =
       let first : y ≡ x = same y x (not_less x xs y ys up counts) (not_less y ys x xs down (λ f. sym (counts f))) in
-      let later : (f : X → ℕ) → sum_by f ys ≡ sum_by f xs = λ f. omega (arith, counts f, sum_by-cons f y ys, sum_by-cons f x xs, ap f first) in
+      let later : (f : X → ℕ) → sum_by f ys ≡ sum_by f xs =
+      λ f. omega (arith, counts f, sum_by-cons f y ys, sum_by-cons f x xs, ap f first) in
       ap₂ ◌∷◌ first (one_order xs ys up.1 down.1 later)
 
   pub sorted_is-sort_by : (xs ys : List X) → IsPermutation xs ys → IsSorted cmp ys → ys ≡ sort_by cmp xs
   sorted_is-sort_by xs ys moved sorted =
       one_order (sort_by cmp xs) ys (ascends-sort_by xs) (ascends_from_sorted ys sorted)
-      (λ f. sum_by-IsPermutation f xs ys moved ∙ sym (sum_by-IsPermutation f xs (sort_by cmp xs) (sort_by_permutes cmp xs)))
+      (λ f. sum_by-IsPermutation f xs ys moved
+      ∙ sym (sum_by-IsPermutation f xs (sort_by cmp xs) (sort_by_permutes cmp xs)))

@@ -19,5 +19,6 @@ pub replaced_span : (spans : List (ℕ × Span)) (name : ℕ) (span : Span) → 
 replaced_span [] name span known = absurd (true≢false (sym known))
 replaced_span (e ∷ es) name span known =
     (elim (same_id name e.0) as (λ b. is_some (cond b (Some e.1) (lookup (same_id name) es)) ≡ true
-    → cond b ((e.0, span) ∷ es) (e ∷ set_value (same_id name) es span) ≡ cond b ((e.0, span) ∷ es) (e ∷ insert_entry same_id es name span))
+    → cond b ((e.0, span) ∷ es) (e ∷ set_value (same_id name) es span)
+    ≡ cond b ((e.0, span) ∷ es) (e ∷ insert_entry same_id es name span))
     [ true ↦ λ h. refl | false ↦ λ h. ap (λ l. e ∷ l) (replaced_span es name span h) ]) known

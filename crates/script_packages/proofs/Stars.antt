@@ -67,7 +67,8 @@ digits_unstarred : (n v : ℕ) (word : List ℕ) → value_from n word ≡ Some 
 digits_unstarred n v [] h = refl
 digits_unstarred n v (b ∷ word) h = by_digit (with_digit n b) (λ m k. digits_unstarred m v word k) refl h
   where
-    by_digit : (o : Option ℕ) → ((m : ℕ) → value_from m word ≡ Some v → list_any is_star word ≡ false) → with_digit n b ≡ o →
+    by_digit : (o : Option ℕ) → ((m : ℕ) → value_from m word ≡ Some v → list_any is_star word ≡ false) →
+        with_digit n b ≡ o →
         option_and_then (λ m. value_from m word) o ≡ Some v → list_any is_star (b ∷ word) ≡ false
     by_digit None later e k = cc
     by_digit (Some m) later e k = or_from _ _ (is_no_star b (digit_of n b m e)) (later m k)
@@ -76,7 +77,8 @@ number_unstarred : (v : ℕ) (word : List ℕ) → number_of word ≡ Some v →
 number_unstarred v [] h = refl
 number_unstarred v (b ∷ word) h = by_length (nat_lt 20 (length (b ∷ word))) h
   where
-    by_length : (long : Bool) → (if long then None else value_from 0 (b ∷ word)) ≡ Some v → list_any is_star (b ∷ word) ≡ false
+    by_length : (long : Bool) → (if long then None else value_from 0 (b ∷ word)) ≡ Some v →
+        list_any is_star (b ∷ word) ≡ false
     by_length true k = cc
     by_length false k = digits_unstarred 0 v (b ∷ word) k
 

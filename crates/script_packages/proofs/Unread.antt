@@ -9,14 +9,16 @@ use Rattle.script_packages.specs.Versions.{version_of, favored_place, each_is_ve
 use Rattle.script_packages.specs.Listing.{Listing, has_span, listed_versions, with_version, with_versions}
 use Rattle.script_packages.specs.Listing.{with_span_from, listed_sets, are_sets, with_some_union}
 
-no_versions : (l : Listing) (name : ℕ) (words : List (List ℕ)) → each_is_version words ≡ false → listed_versions l name words ≡ None
+no_versions : (l : Listing) (name : ℕ) (words : List (List ℕ)) → each_is_version words ≡ false →
+    listed_versions l name words ≡ None
 no_versions l name [] h = let no : true ≡ false = h in cc
 no_versions l name (word ∷ words) h =
     (elim (version_of word) as (λ o. (is_some o && each_is_version words) ≡ false
     → option_and_then (λ version. listed_versions (with_version l name version) name words) o ≡ None)
     [ None ↦ λ h. refl | Some version ↦ λ h. no_versions (with_version l name version) name words h ]) h
 
-pub no_package : (l : Listing) (name : ℕ) (words : List (List ℕ)) → are_versions words ≡ false → with_versions l name words ≡ None
+pub no_package : (l : Listing) (name : ℕ) (words : List (List ℕ)) → are_versions words ≡ false →
+    with_versions l name words ≡ None
 no_package l name [] h = refl
 no_package l name (word ∷ words) h =
     elim (has_span l name) as (λ b. (if b then None
@@ -25,11 +27,14 @@ no_package l name (word ∷ words) h =
     [ true ↦ refl | false ↦ by_place (favored_place (word ∷ words)) h ]
   where
     by_place : (o : Option (Option ℕ)) → (is_some o && each_is_version (word ∷ words)) ≡ false
-        → option_and_then (λ favored. option_map (with_span_from name (length l.pool.solvables) favored) (listed_versions l name (word ∷ words))) o ≡ None
+        → option_and_then (λ favored. option_map (with_span_from name (length l.pool.solvables) favored)
+        (listed_versions l name (word ∷ words))) o ≡ None
     by_place None k = refl
-    by_place (Some favored) k = ap (option_map (with_span_from name (length l.pool.solvables) favored)) (no_versions l name (word ∷ words) k)
+    by_place (Some favored) k = ap (option_map (with_span_from name (length l.pool.solvables) favored))
+        (no_versions l name (word ∷ words) k)
 
-no_sets : (count : ℕ) (sets : List VersionSetId) (words : List (List ℕ)) → are_sets count words ≡ false → listed_sets count sets words ≡ None
+no_sets : (count : ℕ) (sets : List VersionSetId) (words : List (List ℕ)) → are_sets count words ≡ false →
+    listed_sets count sets words ≡ None
 no_sets count sets [] h = let no : true ≡ false = h in cc
 no_sets count sets (word ∷ words) h =
     (elim (below count (number_32 word)) as (λ o. (is_some o && are_sets count words) ≡ false

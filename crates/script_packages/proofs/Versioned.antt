@@ -1,5 +1,6 @@
 -- Solvables that are sorted with their versions are in the order of preference.
-use Rattle.std.proofs.Common.{◌≡◌, ℕ, ◌+◌, ◌<◌, List, [], ◌∷◌, refl, sym, ap, ap₂, subst, ◌∙◌, arith, IsPermutation, IsSorted, is_lt}
+use Rattle.std.proofs.Common.{◌≡◌, ℕ, ◌+◌, ◌<◌, List, [], ◌∷◌, refl, sym, ap, ap₂, subst, ◌∙◌, arith, IsPermutation}
+use Rattle.std.proofs.Common.{IsSorted, is_lt}
 use Rattle.std.proofs.Common.{nat_cmp, Ordering, Less, Equal, Greater}
 use Rattle.std.specs.Prelude.{map, length}
 use Rattle.std.specs.Ordering.{ordering_then}
@@ -49,16 +50,20 @@ module _ (all : List (Solvable ℕ)) where
       let now = apply_swaps list moved.moves in
       let is : sorted ≡ map (with_version all) now = moved.is ∙ moved_with_versions list moved.moves in
       let without : map (λ v. v.solvable) sorted ≡ now = ap (λ l. map (λ v. v.solvable) l) is ∙ solvables_of now in
-      let in_order : IsSorted (preference all) now = sorted_without_versions now (subst (IsSorted versioned_preference) is up) in
+      let in_order : IsSorted (preference all) now =
+      sorted_without_versions now (subst (IsSorted versioned_preference) is up) in
       let same : IsPermutation list now = record {
         moves = moved.moves;
         below = subst (λ n. SwapsInRange n moved.moves) (length-map list (with_version all)) moved.below;
         is = refl;
-      } in
-      (without ∙ sorted_is-best_first all list now same in_order, subst (IsSorted (preference all)) (sym without) in_order)
+      } in (
+        without ∙ sorted_is-best_first all list now same in_order,
+        subst (IsSorted (preference all)) (sym without) in_order,
+      )
 
 -- the numbers tell only where the versions are the same
-pub of_one_version : (v w : Versioned) → v.version ≡ w.version → nat_cmp v.solvable w.solvable ≡ versioned_preference v w
+pub of_one_version : (v w : Versioned) → v.version ≡ w.version →
+    nat_cmp v.solvable w.solvable ≡ versioned_preference v w
 of_one_version v w same =
     sym (ap (λ o. ordering_then o (nat_cmp v.solvable w.solvable))
     (ap (λ n. nat_cmp w.version n) same ∙ tied_itself nat_cmp_total w.version))
@@ -68,7 +73,8 @@ of_two Less b h = refl
 of_two Equal b h = absurd (h refl)
 of_two Greater b h = refl
 
-pub of_two_versions : (v w : Versioned) → (v.version ≡ w.version → ⊥) → nat_cmp w.version v.version ≡ versioned_preference v w
+pub of_two_versions : (v w : Versioned) → (v.version ≡ w.version → ⊥) →
+    nat_cmp w.version v.version ≡ versioned_preference v w
 of_two_versions v w other =
     of_two (nat_cmp w.version v.version) (nat_cmp v.solvable w.solvable)
     (λ e. other (sym (ranked w.version v.version Equal (sym e))))

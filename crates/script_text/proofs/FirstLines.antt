@@ -44,17 +44,20 @@ without_last xs =
     ∙ ap (λ b. if b == 13 then take (length xs) line else line) (get_or-append_seam xs 13 [] 0)
     ∙ take-append_seam xs (13 ∷ [])
 
-pass_while : (b : ℕ) (bs : List ℕ) (v : Bool) → is_printed b ≡ v → IsPrinted bs → list_all is_printed (cond v (b ∷ bs) []) ≡ true
+pass_while : (b : ℕ) (bs : List ℕ) (v : Bool) → is_printed b ≡ v → IsPrinted bs →
+    list_all is_printed (cond v (b ∷ bs) []) ≡ true
 pass_while b bs true h k = ap (λ v. v && list_all is_printed bs) h ∙ k
 pass_while b bs false h k = refl
 
 pub printed_prefix : (text : List ℕ) → IsPrinted (take (prefix_len is_printed text) text)
 printed_prefix [] = refl
 printed_prefix (b ∷ text) =
-    ap (list_all is_printed) (take_while-cons is_printed b text) ∙ pass_while b (take_while is_printed text) (is_printed b) refl (printed_prefix text)
+    ap (list_all is_printed) (take_while-cons is_printed b text)
+    ∙ pass_while b (take_while is_printed text) (is_printed b) refl (printed_prefix text)
 
 -- the first line of a text is what is printed, where a line's end is after it
-module _ (text before after rest : List ℕ) (n : ℕ) (counted : n ≡ prefix_len is_printed text) (front : before ≡ take n text) (back : after ≡ drop n text) where
+module _ (text before after rest : List ℕ) (n : ℕ) (counted : n ≡ prefix_len is_printed text)
+    (front : before ≡ take n text) (back : after ≡ drop n text) where
   pub printed_front : IsPrinted before
   printed_front = ap (list_all is_printed) (front ∙ ap (λ m. take m text) counted) ∙ printed_prefix text
 

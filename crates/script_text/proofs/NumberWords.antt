@@ -1,6 +1,8 @@
 -- Words of digits.
-use Rattle.std.proofs.Common.{◌≡◌, ◌≢◌, ℕ, ◌+◌, ◌*◌, ◌-◌, ◌^◌, ◌<◌, ◌≤◌, ◌==◌, Bool, true, false, ◌&&◌, nat_lt, List, []}
-use Rattle.std.proofs.Common.{◌∷◌, ◌++◌, length, drop, take, get_or, arith, refl, sym, ap, ap₂, ◌∙◌, append_assoc, append-nil, lit<, Option, None, Some}
+use Rattle.std.proofs.Common.{◌≡◌, ◌≢◌, ℕ, ◌+◌, ◌*◌, ◌-◌, ◌^◌, ◌<◌, ◌≤◌, ◌==◌, Bool, true, false, ◌&&◌, nat_lt, List}
+use Rattle.std.proofs.Common.{[]}
+use Rattle.std.proofs.Common.{◌∷◌, ◌++◌, length, drop, take, get_or, arith, refl, sym, ap, ap₂, ◌∙◌, append_assoc}
+use Rattle.std.proofs.Common.{append-nil, lit<, Option, None, Some}
 use Rattle.std.proofs.Common.{◌%◌}
 use Rattle.std.proofs.Math.Nat.{pow-le-pow_right, mod-eq_of_lt}
 use Rattle.std.specs.Prelude.{if◌then◌else◌, option_and_then, slice_get, IfSome}
@@ -35,10 +37,12 @@ digit_goes_on n b small digit =
     ap₂ (λ t u. if t && u then Some (n * 10 + (b - 48)) else None) digit (fits n b small digit)
 
 -- and wraps nowhere
-not_wrapped : (n b : ℕ) → n < 10 ^ 18 → is_digit b ≡ true → (n * 10 % (2 ^ 64) + (b - 48)) % (2 ^ 64) ≡ n * 10 + (b - 48)
+not_wrapped : (n b : ℕ) → n < 10 ^ 18 → is_digit b ≡ true →
+    (n * 10 % (2 ^ 64) + (b - 48)) % (2 ^ 64) ≡ n * 10 + (b - 48)
 not_wrapped n b small digit = grind (arith, nat_tests, mod-eq_of_lt, small, digit)
 
-one_more : (n b : ℕ) (xs : List ℕ) → value_from n (xs ++ b ∷ []) ≡ option_and_then (λ m. value_from m (b ∷ [])) (value_from n xs)
+one_more : (n b : ℕ) (xs : List ℕ) → value_from n (xs ++ b ∷ [])
+    ≡ option_and_then (λ m. value_from m (b ∷ [])) (value_from n xs)
 one_more n b [] = refl
 one_more n b (x ∷ xs) =
     elim (with_digit n x) as (λ o. option_and_then (λ m. value_from m (xs ++ b ∷ [])) o
@@ -60,7 +64,8 @@ pub record ShortValue (text : List ℕ) (i n : ℕ) : Type 0 where
   pub value : value_from 0 (take i text) ≡ Some n
   pub small : n < 10 ^ i
 
-pub short_goes_on : (text : List ℕ) (i n v : ℕ) → i < length text → (i ≤ 19 → ShortValue text i n) → is_digit (get_or text i 0) ≡ true →
+pub short_goes_on : (text : List ℕ) (i n v : ℕ) → i < length text → (i ≤ 19 → ShortValue text i n) →
+    is_digit (get_or text i 0) ≡ true →
     v ≡ (n * 10 % (2 ^ 64) + (get_or text i 0 - 48)) % (2 ^ 64) → i + 1 ≤ 19 → ShortValue text (i + 1) v
 short_goes_on text i n v within before digit is few =
     let b = get_or text i 0 in
@@ -84,16 +89,19 @@ goes_on n v begun (b ∷ word) rest h =
     by_digit (with_digit n b) (λ m k. goes_on m v (begun ++ b ∷ []) word rest k) refl h
   where
     by_digit : (o : Option ℕ) → ((m : ℕ) → value_from m word ≡ Some v → words_from (begun ++ b ∷ []) (word ++ rest)
-        ≡ words_from ((begun ++ b ∷ []) ++ word) rest) → with_digit n b ≡ o → option_and_then (λ m. value_from m word) o ≡ Some v →
+        ≡ words_from ((begun ++ b ∷ []) ++ word) rest) → with_digit n b ≡ o →
+        option_and_then (λ m. value_from m word) o ≡ Some v →
         words_from begun (b ∷ (word ++ rest)) ≡ words_from (begun ++ b ∷ word) rest
     by_digit None later e k = cc
     by_digit (Some m) later e k =
-        ap (λ ends. if ends then begun_word begun ++ words_from [] (word ++ rest) else words_from (begun ++ b ∷ []) (word ++ rest))
+        ap (λ ends. if ends then begun_word begun ++ words_from [] (word ++ rest) else words_from (begun ++ b ∷ [])
+        (word ++ rest))
         (not_blank b (digit_of n b m e))
         ∙ later m k
         ∙ ap (λ l. words_from l rest) (append_assoc begun (b ∷ []) word)
 
-blank_after : (b : ℕ) (t : Bool) (word bs : List ℕ) (w : List ℕ) → (b == 32) ≡ t → t ≡ true → words_from (w) (b ∷ bs) ≡ begun_word w ++ words_from [] bs
+blank_after : (b : ℕ) (t : Bool) (word bs : List ℕ) (w : List ℕ) → (b == 32) ≡ t → t ≡ true →
+    words_from (w) (b ∷ bs) ≡ begun_word w ++ words_from [] bs
 blank_after b t word bs w e h =
     ap (λ ends. if ends then begun_word w ++ words_from [] bs else words_from (w ++ b ∷ []) bs) (e ∙ h)
 
@@ -101,9 +109,11 @@ blank_after b t word bs w e h =
 ended : (b : ℕ) (word rest : List ℕ) → ends_word rest ≡ true → words_from (b ∷ word) rest ≡ (b ∷ word) ∷ words rest
 ended b word [] h = refl
 ended b word (r ∷ rest) h =
-    blank_after r (r == 32) word rest (b ∷ word) refl h ∙ ap (λ l. (b ∷ word) ∷ l) (sym (blank_after r (r == 32) word rest [] refl h))
+    blank_after r (r == 32) word rest (b ∷ word) refl h
+    ∙ ap (λ l. (b ∷ word) ∷ l) (sym (blank_after r (r == 32) word rest [] refl h))
 
-begins_otherwise : (text : List ℕ) → 0 < length text → IfSome (slice_get text 0) (λ b. b ≢ 32) → ends_word text ≡ true → ⊥
+begins_otherwise : (text : List ℕ) → 0 < length text → IfSome (slice_get text 0) (λ b. b ≢ 32) →
+    ends_word text ≡ true → ⊥
 begins_otherwise [] some begins ends = omega (arith, some)
 begins_otherwise (b ∷ text) some begins ends = begins (equal b ends)
   where
@@ -111,7 +121,8 @@ begins_otherwise (b ∷ text) some begins ends = begins (equal b ends)
     equal b e = grind (arith, nat_tests, e)
 
 -- digits are the first word of a text, where a word ends behind them
-module _ (text word rest : List ℕ) (v : ℕ) (whole : word ++ rest ≡ text) (some : 0 < length text) (begins : IfSome (slice_get text 0) (λ b. b ≢ 32))
+module _ (text word rest : List ℕ) (v : ℕ) (whole : word ++ rest ≡ text) (some : 0 < length text)
+    (begins : IfSome (slice_get text 0) (λ b. b ≢ 32))
     (ends : ends_word rest ≡ true) (value : value_from 0 word ≡ Some v) where
   not_none : word ≡ [] → ⊥
   not_none none =
@@ -140,11 +151,13 @@ after_blank : (b : ℕ) (bs : List ℕ) → b ≡ 32 → words (b ∷ bs) ≡ wo
 after_blank b bs is = ap (λ ends. if ends then words bs else words_from (b ∷ []) bs) (ap (λ x. x == 32) is)
 
 -- a short number up to a blank, and up to the end
-module _ (text : List ℕ) (i n : ℕ) (some : 0 < length text) (begins : IfSome (slice_get text 0) (λ b. b ≢ 32)) (few : i ≤ 19)
+module _ (text : List ℕ) (i n : ℕ) (some : 0 < length text) (begins : IfSome (slice_get text 0) (λ b. b ≢ 32))
+    (few : i ≤ 19)
     (short : i ≤ 19 → ShortValue text i n) where
   ends_at : (rest : List ℕ) → drop i text ≡ rest → ends_word rest ≡ true → words text ≡ take i text ∷ words rest
   ends_at rest is ends =
-      first_number text (take i text) rest n (ap (λ l. take i text ++ l) (sym is) ∙ take-append-drop i text) some begins ends
+      first_number text (take i text) rest n (ap (λ l. take i text ++ l) (sym is)
+      ∙ take-append-drop i text) some begins ends
       (short few).value
 
   pub first_until_blank : i < length text → get_or text i 0 ≡ 32 → words text ≡ take i text ∷ words (drop (i + 1) text)
@@ -158,5 +171,6 @@ module _ (text : List ℕ) (i n : ℕ) (some : 0 < length text) (begins : IfSome
   pub number_until_end : length text ≤ i → number_of text ≡ Some n
   number_until_end end =
       ap number_of (sym (take_all i text end))
-      ∙ sym (number_first text (take i text) [] n (ap (λ l. take i text ++ l) (sym (drop_all i text end)) ∙ take-append-drop i text) some begins refl
+      ∙ sym (number_first text (take i text) [] n (ap (λ l. take i text ++ l) (sym (drop_all i text end))
+      ∙ take-append-drop i text) some begins refl
       (short few).value (omega (arith, length-take i text, few)))

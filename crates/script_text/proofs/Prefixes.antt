@@ -9,7 +9,8 @@ use Rattle.std.proofs.lemmas.List.Folds.{prefix_len-append}
 use Rattle.script_text.specs.Lines.{is_printed}
 
 -- of sixteen bytes of a text, so many come before the first that fails a test
-module _ (p : ℕ → Bool) (text : List ℕ) (at found : ℕ) (room : at + 16 ≤ length text) (is : found ≡ prefix_len p (take 16 (drop at text))) where
+module _ (p : ℕ → Bool) (text : List ℕ) (at found : ℕ) (room : at + 16 ≤ length text)
+    (is : found ≡ prefix_len p (take 16 (drop at text))) where
   long : length (take 16 (drop at text)) ≡ 16
   long = length-take-le 16 (drop at text) (omega (arith, length-drop at text, room))
 
@@ -35,4 +36,5 @@ one_more false n l = ne_eqb 0 (suc l) (omega arith)
 
 pub printed_whole : (bytes : List ℕ) → nat_eq (prefix_len is_printed bytes) (length bytes) ≡ list_all is_printed bytes
 printed_whole [] = refl
-printed_whole (b ∷ bytes) = one_more (is_printed b) (prefix_len is_printed bytes) (length bytes) ∙ ap (λ r. is_printed b && r) (printed_whole bytes)
+printed_whole (b ∷ bytes) = one_more (is_printed b) (prefix_len is_printed bytes) (length bytes)
+    ∙ ap (λ r. is_printed b && r) (printed_whole bytes)

@@ -1,5 +1,6 @@
 -- Printed bytes: parts of them are printed, and they are text.
-use Rattle.std.proofs.Common.{◌≡◌, ℕ, ◌<◌, Bool, true, false, ◌&&◌, nat_le, zero, suc, List, [], ◌∷◌, take, drop, arith, ap, sym, ◌∙◌}
+use Rattle.std.proofs.Common.{◌≡◌, ℕ, ◌<◌, Bool, true, false, ◌&&◌, nat_le, zero, suc, List, [], ◌∷◌, take, drop}
+use Rattle.std.proofs.Common.{arith, ap, sym, ◌∙◌}
 use Rattle.std.specs.List.{list_all}
 use Rattle.std.proofs.lemmas.Bool.Decides.{nat_tests}
 use Rattle.std.specs.Str.{IsUtf8, IsAscii}
@@ -16,7 +17,8 @@ both false b h = cc
 
 pub printed_parts : (i : ℕ) (bytes : List ℕ) → IsPrinted bytes → ArePrinted (take i bytes) (drop i bytes)
 printed_parts i bytes h =
-    both _ _ (sym (list_all-append is_printed (take i bytes) (drop i bytes)) ∙ ap (list_all is_printed) (take-append-drop i bytes) ∙ h)
+    both _ _ (sym (list_all-append is_printed (take i bytes) (drop i bytes))
+    ∙ ap (list_all is_printed) (take-append-drop i bytes) ∙ h)
 
 small : (b : ℕ) → nat_le b 126 ≡ true → b < 128
 small b le = grind (arith, nat_tests, le)

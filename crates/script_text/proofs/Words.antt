@@ -1,5 +1,6 @@
 -- Words that begin with a mark.
-use Rattle.std.proofs.Common.{◌≡◌, ◌≢◌, ℕ, ◌==◌, ◌<◌, Bool, true, false, List, [], ◌∷◌, ◌++◌, length, arith, refl, ap, sym, ◌∙◌}
+use Rattle.std.proofs.Common.{◌≡◌, ◌≢◌, ℕ, ◌==◌, ◌<◌, Bool, true, false, List, [], ◌∷◌, ◌++◌, length, arith, refl, ap}
+use Rattle.std.proofs.Common.{sym, ◌∙◌}
 use Rattle.std.specs.Prelude.{if◌then◌else◌, slice_get, IfSome}
 use Rattle.std.proofs.lemmas.Bool.Decides.{nat_tests}
 use Rattle.script_text.specs.Words.{words, words_from, begun_word}
@@ -10,14 +11,18 @@ marked mark [] = []
 marked mark (w ∷ ws) = (mark ∷ w) ∷ ws
 
 -- a word is begun by a mark and what was begun of it
-marked_from : (mark b : ℕ) (begun text : List ℕ) → words_from (mark ∷ b ∷ begun) text ≡ marked mark (words_from (b ∷ begun) text)
+marked_from : (mark b : ℕ) (begun text : List ℕ) → words_from (mark ∷ b ∷ begun) text
+    ≡ marked mark (words_from (b ∷ begun) text)
 marked_from mark b begun [] = refl
 marked_from mark b begun (t ∷ text) =
     by_test (t == 32) (marked_from mark b (begun ++ t ∷ []) text)
   where
-    by_test : (ends : Bool) → words_from (mark ∷ b ∷ begun ++ t ∷ []) text ≡ marked mark (words_from (b ∷ begun ++ t ∷ []) text)
-        → (if ends then begun_word (mark ∷ b ∷ begun) ++ words_from [] text else words_from (mark ∷ b ∷ begun ++ t ∷ []) text)
-        ≡ marked mark (if ends then begun_word (b ∷ begun) ++ words_from [] text else words_from (b ∷ begun ++ t ∷ []) text)
+    by_test : (ends : Bool) → words_from (mark ∷ b ∷ begun ++ t ∷ []) text
+        ≡ marked mark (words_from (b ∷ begun ++ t ∷ []) text)
+        → (if ends then begun_word (mark ∷ b ∷ begun) ++ words_from [] text else words_from
+        (mark ∷ b ∷ begun ++ t ∷ []) text)
+        ≡ marked mark (if ends then begun_word (b ∷ begun) ++ words_from [] text else words_from
+        (b ∷ begun ++ t ∷ []) text)
     by_test true further = refl
     by_test false further = further
 
@@ -29,12 +34,14 @@ begins_word mark text other =
     ap (λ ends. if ends then words text else words_from (mark ∷ []) text) (other_byte mark other)
 
 -- a mark alone
-pub marked_alone : (mark : ℕ) (text : List ℕ) → mark ≢ 32 → (IfSome (slice_get text 0) (λ b. b ≡ 32)) → words (mark ∷ text) ≡ (mark ∷ []) ∷ words text
+pub marked_alone : (mark : ℕ) (text : List ℕ) → mark ≢ 32 → (IfSome (slice_get text 0) (λ b. b ≡ 32)) →
+    words (mark ∷ text) ≡ (mark ∷ []) ∷ words text
 marked_alone mark [] other ends = begins_word mark [] other
 marked_alone mark (b ∷ text) other blank =
     begins_word mark (b ∷ text) other
     ∙ ap (λ ends. if ends then (mark ∷ []) ∷ words text else words_from (mark ∷ b ∷ []) text) (ap (λ x. x == 32) blank)
-    ∙ ap (λ ws. (mark ∷ []) ∷ ws) (sym (ap (λ ends. if ends then words text else words_from (b ∷ []) text) (ap (λ x. x == 32) blank)))
+    ∙ ap (λ ws. (mark ∷ []) ∷ ws) (sym (ap (λ ends. if ends then words text else words_from (b ∷ []) text)
+    (ap (λ x. x == 32) blank)))
 
 -- a mark, and a word directly behind it
 pub marked_word : (mark : ℕ) (text word : List ℕ) (ws : List (List ℕ)) → mark ≢ 32 → 0 < length text

@@ -7,7 +7,8 @@ use Rattle.scripts.specs.Commands.{literal_of, are_literals, with_literals}
 literals_read : (ls : List Lit) (ws : List (List ℕ)) → is_some (with_literals ls ws) ≡ are_literals ws
 literals_read ls [] = refl
 literals_read ls (word ∷ ws) =
-    elim (literal_of word) as (λ o. is_some (option_and_then (λ l. with_literals (ls ++ l ∷ []) ws) o) ≡ (is_some o && are_literals ws))
+    elim (literal_of word) as (λ o. is_some (option_and_then (λ l. with_literals (ls ++ l ∷ []) ws) o)
+    ≡ (is_some o && are_literals ws))
     [ None ↦ refl | Some l ↦ literals_read (ls ++ l ∷ []) ws ]
 
 none_there : (o : Option (List Lit)) → is_some o ≡ false → o ≡ None

@@ -21,7 +21,9 @@ pub none_rank : rank ecosystem (0 ∷ []) newest ≡ 2
 none_rank = refl
 
 -- where version 2 is a solution, version 1 isn't the best one
-pub older_is_beaten : IsSolution ecosystem (always 1 ∷ []) (2 ∷ []) → IsBest ecosystem (always 1 ∷ []) (newest ∷ []) (1 ∷ []) → ⊥
+pub older_is_beaten : IsSolution ecosystem (always 1 ∷ []) (2 ∷ []) →
+    IsBest ecosystem (always 1 ∷ []) (newest ∷ []) (1 ∷ []) → ⊥
 older_is_beaten solution best =
-    let least = best.unbeaten 0 newest refl (2 ∷ []) solution (All-nil (λ wish. rank ecosystem (1 ∷ []) wish ≡ rank ecosystem (2 ∷ []) wish)) in
+    let least = best.unbeaten 0 newest refl (2 ∷ []) solution
+    (All-nil (λ wish. rank ecosystem (1 ∷ []) wish ≡ rank ecosystem (2 ∷ []) wish)) in
     omega (arith, least)

@@ -1,5 +1,6 @@
 -- The state of a clause, with one more literal.
-use Rattle.std.proofs.Common.{◌≡◌, ◌∙◌, Bool, true, false, not, if◌then◌else◌, ◌||◌, List, [], ◌∷◌, ◌++◌, ap, refl, sym, true≢false}
+use Rattle.std.proofs.Common.{◌≡◌, ◌∙◌, Bool, true, false, not, if◌then◌else◌, ◌||◌, List, [], ◌∷◌, ◌++◌, ap, refl}
+use Rattle.std.proofs.Common.{sym, true≢false}
 use Rattle.std.proofs.lemmas.List.Folds.{list_any-append}
 use Rattle.solutions.specs.Clauses.{AreTrue, IsStateOf, has_true, is_true}
 use Rattle.solutions.specs.declared.literal.Fact.{Fact}
@@ -28,9 +29,11 @@ module _ {N S : Type 0} where
       → ((holds : Fact N S → Bool) → AreTrue holds known → is_true holds l ≡ false)
       → IsStateOf known clause rest → IsStateOf known (clause ++ l ∷ []) rest
   state_without known clause l Falsified is_false was = λ holds true_ones met.
-      was holds true_ones (first_of (has_true holds clause) (is_true holds l) (is_false holds true_ones) (sym (split holds clause l) ∙ met))
+      was holds true_ones (first_of (has_true holds clause) (is_true holds l) (is_false holds true_ones)
+      (sym (split holds clause l) ∙ met))
   state_without known clause l (Unit k) is_false was = λ holds true_ones met.
-      was holds true_ones (first_of (has_true holds clause) (is_true holds l) (is_false holds true_ones) (sym (split holds clause l) ∙ met))
+      was holds true_ones (first_of (has_true holds clause) (is_true holds l) (is_false holds true_ones)
+      (sym (split holds clause l) ∙ met))
   state_without known clause l Open is_false was = tt
 
   -- if no other could be true, it has to be
@@ -40,7 +43,8 @@ module _ {N S : Type 0} where
       either_of (is_true holds l ≡ true) (has_true holds clause) (is_true holds l)
       (λ e. absurd (was holds true_ones e)) (λ e. e) (sym (split holds clause l) ∙ met)
 
-  same_true : (holds : Fact N S → Bool) (k l : Literal N S) → k.fact ≡ l.fact → k.value ≡ l.value → is_true holds l ≡ true → is_true holds k ≡ true
+  same_true : (holds : Fact N S → Bool) (k l : Literal N S) → k.fact ≡ l.fact → k.value ≡ l.value →
+      is_true holds l ≡ true → is_true holds k ≡ true
   same_true holds k l fact value e = ap (λ v. if v then holds k.fact else not (holds k.fact)) value
       ∙ ap (λ f. if l.value then holds f else not (holds f)) fact ∙ e
 

@@ -1,5 +1,6 @@
 -- Tests that visit one member of a list after another, and end at the first one that fails.
-use Rattle.std.proofs.Common.{◌≡◌, ◌∙◌, ℕ, ◌+◌, ◌≤◌, ◌<◌, Bool, true, false, ◌||◌, List, [], ◌∷◌, length, map, take, get_or, ap, sym, subst, true≢false, refl}
+use Rattle.std.proofs.Common.{◌≡◌, ◌∙◌, ℕ, ◌+◌, ◌≤◌, ◌<◌, Bool, true, false, ◌||◌, List, [], ◌∷◌, length, map, take}
+use Rattle.std.proofs.Common.{get_or, ap, sym, subst, true≢false, refl}
 use Rattle.std.specs.Bool.{Decides}
 use Rattle.std.specs.Prelude.{Result, Ok, Err, IfOk, OnOk}
 use Rattle.std.specs.List.{All, list_any}
@@ -42,7 +43,8 @@ answered (Ok x) follows holds = follows x holds
 answered (Err e) follows holds = holds
 
 -- where there is an answer, what follows from it and from what is done
-pub answered_where : {T E : Type 0} {P Q : T → Type 0} {D : Type 0} (r : Result T E) → ((x : T) → D → P x → Q x) → OnOk r D → IfOk r P → IfOk r Q
+pub answered_where : {T E : Type 0} {P Q : T → Type 0} {D : Type 0} (r : Result T E) → ((x : T) → D → P x → Q x) →
+    OnOk r D → IfOk r P → IfOk r Q
 answered_where (Ok x) follows holds answer = follows x holds answer
 answered_where (Err e) follows holds answer = answer
 
@@ -52,6 +54,7 @@ done (Ok x) follows holds = follows holds
 done (Err e) follows holds = holds
 
 -- where there is an answer, what holds of it for each
-pub ok_each : {T E H : Type 0} (Q : T → H → Type 0) (r : Result T E) → ((h : H) → IfOk r (λ x. Q x h)) → IfOk r (λ x. (h : H) → Q x h)
+pub ok_each : {T E H : Type 0} (Q : T → H → Type 0) (r : Result T E) → ((h : H) → IfOk r (λ x. Q x h)) →
+    IfOk r (λ x. (h : H) → Q x h)
 ok_each Q (Ok x) each = each
 ok_each Q (Err e) each = tt

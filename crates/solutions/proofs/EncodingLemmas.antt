@@ -1,5 +1,6 @@
 -- What clauses say of selections, one clause and one literal after another.
-use Rattle.std.proofs.Common.{◌≡◌, ◌∙◌, ℕ, ◌+◌, ◌<◌, Bool, true, false, not, ◌||◌, ◌&&◌, List, [], ◌∷◌, ◌++◌, length, take, get_or, map, ap, refl, sym, subst, true≢false, if◌then◌else◌}
+use Rattle.std.proofs.Common.{◌≡◌, ◌∙◌, ℕ, ◌+◌, ◌<◌, Bool, true, false, not, ◌||◌, ◌&&◌, List, [], ◌∷◌, ◌++◌, length}
+use Rattle.std.proofs.Common.{take, get_or, map, ap, refl, sym, subst, true≢false, if◌then◌else◌}
 use Rattle.std.specs.List.{All, list_any, list_all}
 use Rattle.std.specs.declared.vec.Vec.{Vec}
 use Rattle.std.proofs.lemmas.List.{take_more}
@@ -48,13 +49,15 @@ pub not_is_true : (b : Bool) → not b ≡ true → b ≡ false
 not_is_true true h = absurd (true≢false (sym h))
 not_is_true false h = refl
 
-module _ {X : Type 0} (f : X → Bool) (xs : List X) (i : ℕ) (x : X) (below : i < length xs) (is : x ≡ get_or xs i x) where
+module _ {X : Type 0} (f : X → Bool) (xs : List X) (i : ℕ) (x : X) (below : i < length xs)
+    (is : x ≡ get_or xs i x) where
   more : take (i + 1) xs ≡ take i xs ++ x ∷ []
   more = take_more xs i x below ∙ ap (λ y. take i xs ++ y ∷ []) (sym is)
 
   -- some of one more element, and all
   pub any_more : list_any f (take (i + 1) xs) ≡ (list_any f (take i xs) || f x)
-  any_more = ap (list_any f) more ∙ list_any-append f (take i xs) (x ∷ []) ∙ ap (λ b. list_any f (take i xs) || b) (or_nothing (f x))
+  any_more = ap (list_any f) more ∙ list_any-append f (take i xs) (x ∷ [])
+      ∙ ap (λ b. list_any f (take i xs) || b) (or_nothing (f x))
 
   pub not_all_more : not (list_all f (take (i + 1) xs)) ≡ (not (list_all f (take i xs)) || not (f x))
   not_all_more = ap (λ l. not (list_all f l)) more ∙ ap not (list_all-append f (take i xs) (x ∷ []))
@@ -69,18 +72,21 @@ module _ {X : Type 0} (f : X → Bool) where
       All-cons (λ y. f y ≡ false) x xs both.0 (none_of xs both.1)
 
   pub none_at : (xs : List X) (i : ℕ) (x : X) → i < length xs → x ≡ get_or xs i x → list_any f xs ≡ false → f x ≡ false
-  none_at xs i x below is none = subst (λ y. f y ≡ false) (sym is) (All-get_or (λ y. f y ≡ false) xs i x below (none_of xs none))
+  none_at xs i x below is none = subst (λ y. f y ≡ false) (sym is)
+      (All-get_or (λ y. f y ≡ false) xs i x below (none_of xs none))
 
 module _ {N S A : Type 0} (p : Provider N S) where
   pub still : (IsSo : List S → Type 0) (clauses : List (Vec (Literal N S) A)) → AreStillSatisfied p IsSo clauses clauses
   still IsSo clauses = λ picked so met. met
 
-  pub still_then : (IsSo : List S → Type 0) (one two three : List (Vec (Literal N S) A)) → AreStillSatisfied p IsSo one two
+  pub still_then : (IsSo : List S → Type 0) (one two three : List (Vec (Literal N S) A)) →
+      AreStillSatisfied p IsSo one two
       → AreStillSatisfied p IsSo two three → AreStillSatisfied p IsSo one three
   still_then IsSo one two three f g = λ picked so met. g picked so (f picked so met)
 
   pub still_where : (IsSo Asks : List S → Type 0) (one two : List (Vec (Literal N S) A))
-      → ((picked : List S) → Asks picked → IsSo picked) → AreStillSatisfied p IsSo one two → AreStillSatisfied p Asks one two
+      → ((picked : List S) → Asks picked → IsSo picked) → AreStillSatisfied p IsSo one two →
+      AreStillSatisfied p Asks one two
   still_where IsSo Asks one two so f = λ picked asked met. f picked (so picked asked) met
 
   pub still_one : (IsSo : List S → Type 0) (one two : List (Vec (Literal N S) A)) (clause : Vec (Literal N S) A)
@@ -88,18 +94,22 @@ module _ {N S A : Type 0} (p : Provider N S) where
       → AreStillSatisfied p IsSo one two
   still_one IsSo one two clause is has = λ picked so met.
       let P = λ (c : Vec (Literal N S) A). has_true (truth p picked) c.items ≡ true in
-      subst (AreSatisfied (truth p picked)) (sym is) (All-append P one (clause ∷ []) met (All-cons P clause [] (has picked so) (All-nil P)))
+      subst (AreSatisfied (truth p picked)) (sym is) (All-append P one (clause ∷ []) met
+      (All-cons P clause [] (has picked so) (All-nil P)))
 
-  pub still_added : (IsSo : List S → Type 0) (one two : List (Vec (Literal N S) A)) (literals : List (Literal N S)) → IsClauseAdded one literals two
+  pub still_added : (IsSo : List S → Type 0) (one two : List (Vec (Literal N S) A)) (literals : List (Literal N S)) →
+      IsClauseAdded one literals two
       → ((picked : List S) → IsSo picked → has_true (truth p picked) literals ≡ true) → AreStillSatisfied p IsSo one two
   still_added IsSo one two literals stated has =
-      still_one IsSo one two stated.clause stated.added (λ picked so. ap (has_true (truth p picked)) stated.is ∙ has picked so)
+      still_one IsSo one two stated.clause stated.added (λ picked so. ap (has_true (truth p picked)) stated.is
+      ∙ has picked so)
 
 module _ {N S : Type 0} (p : Provider N S) where
   pub or_none : (is_so : List S → Bool) (literals : List (Literal N S)) → ((picked : List S) → is_so picked ≡ false)
       → HasTrueOr p is_so literals literals
   or_none is_so literals none = λ picked.
-      sym (ap (λ b. has_true (truth p picked) literals || b) (none picked) ∙ or_nothing (has_true (truth p picked) literals))
+      sym (ap (λ b. has_true (truth p picked) literals || b) (none picked)
+      ∙ or_nothing (has_true (truth p picked) literals))
 
   pub or_one : (is_so : List S → Bool) (one two : List (Literal N S)) (l : Literal N S) → two ≡ one ++ l ∷ []
       → ((picked : List S) → is_true (truth p picked) l ≡ is_so picked) → HasTrueOr p is_so one two
@@ -107,10 +117,12 @@ module _ {N S : Type 0} (p : Provider N S) where
       ap (has_true (truth p picked)) is ∙ list_any-append (is_true (truth p picked)) one (l ∷ [])
       ∙ ap (λ b. has_true (truth p picked) one || b) (or_nothing (is_true (truth p picked) l) ∙ so picked)
 
-  pub or_then : (f g h : List S → Bool) (one two three : List (Literal N S)) → ((picked : List S) → h picked ≡ (f picked || g picked))
+  pub or_then : (f g h : List S → Bool) (one two three : List (Literal N S)) →
+      ((picked : List S) → h picked ≡ (f picked || g picked))
       → HasTrueOr p f one two → HasTrueOr p g two three → HasTrueOr p h one three
   or_then f g h one two three is first second = λ picked.
-      second picked ∙ ap (λ b. b || g picked) (first picked) ∙ or_assoc (has_true (truth p picked) one) (f picked) (g picked)
+      second picked ∙ ap (λ b. b || g picked) (first picked)
+      ∙ or_assoc (has_true (truth p picked) one) (f picked) (g picked)
       ∙ ap (λ b. has_true (truth p picked) one || b) (sym (is picked))
 
   pub or_same : (f g : List S → Bool) (one two : List (Literal N S)) → ((picked : List S) → f picked ≡ g picked)
@@ -126,13 +138,15 @@ module _ {N S : Type 0} (p : Provider N S) where
   pub unpicked_literal : (l : Literal N S) (s : S) → l.fact ≡ Picked s → l.value ≡ false → (picked : List S)
       → is_true (truth p picked) l ≡ not (is_among p picked s)
   unpicked_literal l s fact value picked =
-      ap (λ v. if v then truth p picked l.fact else not (truth p picked l.fact)) value ∙ ap (λ f. not (truth p picked f)) fact
+      ap (λ v. if v then truth p picked l.fact else not (truth p picked l.fact)) value
+      ∙ ap (λ f. not (truth p picked f)) fact
 
   -- a clause that it isn't picked: where it is false, and where it is true
   pub picked_where_false : (l : Literal N S) (s : S) → l.fact ≡ Picked s → l.value ≡ false → (picked : List S)
       → has_true (truth p picked) (l ∷ []) ≡ false → is_among p picked s ≡ true
   picked_where_false l s fact value picked fails =
-      not_false (is_among p picked s) (sym (unpicked_literal l s fact value picked) ∙ sym (or_nothing (is_true (truth p picked) l)) ∙ fails)
+      not_false (is_among p picked s) (sym (unpicked_literal l s fact value picked)
+      ∙ sym (or_nothing (is_true (truth p picked) l)) ∙ fails)
 
   pub true_where_unpicked : (l : Literal N S) (s : S) → l.fact ≡ Picked s → l.value ≡ false → (picked : List S)
       → is_among p picked s ≡ false → has_true (truth p picked) (l ∷ []) ≡ true
@@ -140,7 +154,8 @@ module _ {N S : Type 0} (p : Provider N S) where
       or_nothing (is_true (truth p picked) l) ∙ unpicked_literal l s fact value picked ∙ ap not is
 
   -- a clause of two literals: the second one is that a solvable isn't picked
-  pub unpicked_satisfied : (unless l : Literal N S) (solvables : List S) (i : ℕ) (s : S) (picked : List S) → i < length solvables
+  pub unpicked_satisfied : (unless l : Literal N S) (solvables : List S) (i : ℕ) (s : S) (picked : List S) →
+      i < length solvables
       → s ≡ get_or solvables i s → is_true (truth p picked) l ≡ not (is_among p picked s)
       → NonePickedUnless p (unless ∷ []) picked solvables → has_true (truth p picked) (unless ∷ l ∷ []) ≡ true
   unpicked_satisfied unless l solvables i s picked below is says left_out =
@@ -168,10 +183,12 @@ module _ {N S : Type 0} (p : Provider N S) where
   clause_is_true false false m given = refl
   clause_is_true false true m given = given refl refl
 
-  pub requirement_satisfied : (unless clause one : List (Literal N S)) (held : List VersionSetId) (picked : List S) (m : Bool)
+  pub requirement_satisfied : (unless clause one : List (Literal N S)) (held : List VersionSetId) (picked : List S)
+      (m : Bool)
       → HasTrueOr p (λ q. not (list_all (has_picked p (is_among p q)) held)) unless one
       → has_true (truth p picked) clause ≡ (has_true (truth p picked) one || m)
-      → (has_true (truth p picked) unless ≡ false → (list_all (has_picked p (is_among p picked)) held || false) ≡ true → m ≡ true)
+      → (has_true (truth p picked) unless ≡ false → (list_all (has_picked p (is_among p picked)) held || false)
+      ≡ true → m ≡ true)
       → has_true (truth p picked) clause ≡ true
   requirement_satisfied unless clause one held picked m first second given =
       second ∙ ap (λ b. b || m) (first picked)
@@ -181,7 +198,8 @@ module _ {N S : Type 0} (p : Provider N S) where
   pub unheld_literal : (l : Literal N S) (set : VersionSetId) → l.fact ≡ Held set → l.value ≡ false → (picked : List S)
       → is_true (truth p picked) l ≡ not (has_picked p (is_among p picked) set)
   unheld_literal l set fact value picked =
-      ap (λ v. if v then truth p picked l.fact else not (truth p picked l.fact)) value ∙ ap (λ f. not (truth p picked f)) fact
+      ap (λ v. if v then truth p picked l.fact else not (truth p picked l.fact)) value
+      ∙ ap (λ f. not (truth p picked f)) fact
 
   pub held_literal : (l : Literal N S) (set : VersionSetId) → l.fact ≡ Held set → l.value ≡ true → (picked : List S)
       → is_true (truth p picked) l ≡ has_picked p (is_among p picked) set
@@ -189,20 +207,24 @@ module _ {N S : Type 0} (p : Provider N S) where
       ap (λ v. if v then truth p picked l.fact else not (truth p picked l.fact)) value ∙ ap (truth p picked) fact
 
   pub held_where_known : (set : VersionSetId) (found : List S) (picked : List S) → p.universe.knows_set set ≡ true
-      → found ≡ matching p.universe p.answers set → list_any (is_among p picked) found ≡ has_picked p (is_among p picked) set
+      → found ≡ matching p.universe p.answers set → list_any (is_among p picked) found
+      ≡ has_picked p (is_among p picked) set
   held_where_known set found picked knows is =
       ap (list_any (is_among p picked)) is
       ∙ ap (λ b. b && list_any (is_among p picked) (matching p.universe p.answers set)) (sym knows)
 
-  pub satisfied_where_known : (requirement : Requirement) (sets : List VersionSetId) (picked : List S) → knows_requirement p.universe requirement ≡ true
+  pub satisfied_where_known : (requirement : Requirement) (sets : List VersionSetId) (picked : List S) →
+      knows_requirement p.universe requirement ≡ true
       → sets ≡ sets_of p.universe requirement
       → list_any (has_picked p (is_among p picked)) sets ≡ is_satisfied p (is_among p picked) requirement
   satisfied_where_known requirement sets picked knows is =
       ap (list_any (has_picked p (is_among p picked))) is
       ∙ ap (λ b. b && list_any (has_picked p (is_among p picked)) (sets_of p.universe requirement)) (sym knows)
 
-  pub unpicked_unless_held : (l : Literal N S) (set : VersionSetId) (found : List S) (picked : List S) → l.fact ≡ Held set → l.value ≡ true
-      → p.universe.knows_set set ≡ true → found ≡ matching p.universe p.answers set → NonePickedUnless p (l ∷ []) picked found
+  pub unpicked_unless_held : (l : Literal N S) (set : VersionSetId) (found : List S) (picked : List S) →
+      l.fact ≡ Held set → l.value ≡ true
+      → p.universe.knows_set set ≡ true → found ≡ matching p.universe p.answers set →
+      NonePickedUnless p (l ∷ []) picked found
   unpicked_unless_held l set found picked fact value knows is fails =
       held_where_known set found picked knows is ∙ sym (held_literal l set fact value picked)
       ∙ sym (or_nothing (is_true (truth p picked) l)) ∙ fails
@@ -211,10 +233,12 @@ module _ {N S : Type 0} (p : Provider N S) where
       → list_any (is_among p picked) (non_matching p.universe p.answers set) ≡ false
   none_where_respected set picked kept =
       not_is_true (list_any (is_among p picked) (non_matching p.universe p.answers set))
-      (both_true (p.universe.knows_set set) (not (list_any (is_among p picked) (non_matching p.universe p.answers set))) kept).1
+      (both_true (p.universe.knows_set set)
+      (not (list_any (is_among p picked) (non_matching p.universe p.answers set))) kept).1
 
 -- what holds of all holds of each
-pub all_one : {X : Type 0} (P : X → Type 0) (xs : List X) (i : ℕ) (x : X) → i < length xs → x ≡ get_or xs i x → All P xs → All P (x ∷ [])
+pub all_one : {X : Type 0} (P : X → Type 0) (xs : List X) (i : ℕ) (x : X) → i < length xs → x ≡ get_or xs i x →
+    All P xs → All P (x ∷ [])
 all_one P xs i x below is all = All-cons P x [] (subst P (sym is) (All-get_or P xs i x below all)) (All-nil P)
 
 -- what isn't false is true
@@ -223,12 +247,15 @@ true_or true fails = refl
 true_or false fails = absurd (fails refl)
 
 -- one of the lists passes a test
-pub some_at : {V X : Type 0} (items : V → List X) (test : List X → Bool) (lists : List V) (i : ℕ) (x : V) (list : List X) → i < length lists
+pub some_at : {V X : Type 0} (items : V → List X) (test : List X →
+    Bool) (lists : List V) (i : ℕ) (x : V) (list : List X) → i < length lists
     → x ≡ get_or lists i x → list ≡ items x → (test list || false) ≡ true → list_any test (map items lists) ≡ true
 some_at items test lists i x list below is same passes =
     some_passes items test lists ∙ list_any_at (λ l. test (items l)) lists i x below
     (ap (λ l. test (items l)) (sym is) ∙ ap test (sym same) ∙ sym (or_nothing (test list)) ∙ passes)
 
 -- an element, whatever stands for one past the end
-pub own_default : {X : Type 0} (xs : List X) (i : ℕ) (d : X) → i < length xs → get_or xs i d ≡ get_or xs i (get_or xs i d)
-own_default xs i d below = sym (get_or_from_slice_get xs i (get_or xs i d) (get_or xs i d) (slice_get-get_or xs i d below))
+pub own_default : {X : Type 0} (xs : List X) (i : ℕ) (d : X) → i < length xs →
+    get_or xs i d ≡ get_or xs i (get_or xs i d)
+own_default xs i d below = sym (get_or_from_slice_get xs i (get_or xs i d) (get_or xs i d)
+    (slice_get-get_or xs i d below))

@@ -1,6 +1,8 @@
 -- Solutions in a small ecosystem, and what is none. The solvable 0 is an app, 1 and 2 are versions of a library, 3 is a
--- plugin. The app needs the library, and the plugin where version 2 of the library is picked; it allows no other version.
-use Rattle.std.proofs.Common.{◌≡◌, ◌∙◌, ◌||◌, ℕ, zero, suc, Bool, true, false, List, [], ◌∷◌, refl, Option, None, Some, if◌then◌else◌, ◌==◌, nat_eq, nat_lt, true≢false, ap, sym, lit<, arith}
+-- plugin. The app needs the library, and the plugin where version 2 of the library is picked; it allows no other
+-- version.
+use Rattle.std.proofs.Common.{◌≡◌, ◌∙◌, ◌||◌, ℕ, zero, suc, Bool, true, false, List, [], ◌∷◌, refl, Option, None}
+use Rattle.std.proofs.Common.{Some, if◌then◌else◌, ◌==◌, nat_eq, nat_lt, true≢false, ap, sym, lit<, arith}
 use Rattle.std.specs.List.{IsDistinct}
 use Rattle.std.proofs.lemmas.List.Elements.{All-nil, All-cons, All-head, All-tail}
 use Rattle.resolvo_ids.specs.Types.StringId.{StringId}
@@ -84,13 +86,19 @@ all_three =
     let is_known = λ (s : ℕ). nat_lt s 4 ≡ true in
     let allows = λ (s : ℕ). is_allowed ecosystem s ≡ true in
     record {
-      known = All-cons is_known 0 (2 ∷ 3 ∷ []) refl (All-cons is_known 2 (3 ∷ []) refl (All-cons is_known 3 [] refl (All-nil is_known)));
-      allowed = All-cons allows 0 (2 ∷ 3 ∷ []) refl (All-cons allows 2 (3 ∷ []) refl (All-cons allows 3 [] refl (All-nil allows)));
+      known = All-cons is_known 0 (2 ∷ 3 ∷ []) refl (All-cons is_known 2 (3 ∷ []) refl
+          (All-cons is_known 3 [] refl (All-nil is_known)));
+      allowed = All-cons allows 0 (2 ∷ 3 ∷ []) refl (All-cons allows 2 (3 ∷ []) refl
+          (All-cons allows 3 [] refl (All-nil allows)));
       one_a_package = ((refl, (refl, tt)), ((refl, tt), (tt, tt)));
       satisfied = All-cons is_satisfied (always 0) [] refl (All-nil is_satisfied);
-      needs_satisfied = All-cons are_needs_satisfied 0 (2 ∷ 3 ∷ [])
-          (All-cons is_satisfied (always 1) (under 0 3 ∷ []) refl (All-cons is_satisfied (under 0 3) [] (refl, λ _. refl) (All-nil is_satisfied)), refl)
-          (All-cons are_needs_satisfied 2 (3 ∷ []) (All-nil is_satisfied, refl) (All-cons are_needs_satisfied 3 [] (All-nil is_satisfied, refl) (All-nil are_needs_satisfied)));
+      needs_satisfied = All-cons are_needs_satisfied 0 (2 ∷ 3 ∷ []) (
+        All-cons is_satisfied (always 1) (under 0 3 ∷ []) refl
+            (All-cons is_satisfied (under 0 3) [] (refl, λ _. refl) (All-nil is_satisfied)),
+        refl,
+      )
+          (All-cons are_needs_satisfied 2 (3 ∷ []) (All-nil is_satisfied, refl)
+          (All-cons are_needs_satisfied 3 [] (All-nil is_satisfied, refl) (All-nil are_needs_satisfied)));
     }
 
 -- without the plugin they aren't, since version 2 is picked
@@ -135,7 +143,11 @@ and_version_1 = 0 ∷ 2 ∷ 3 ∷ 1 ∷ []
 -- another version beside a solution can be left out
 pub version_1_spare : NoneSpare ecosystem requested [] and_version_1 → ⊥
 version_1_spare none =
-    none 3 1 (omega arith) (all_three, All-nil (λ (wish : List (Alternative ℕ)). rank ecosystem and_version_1 wish ≡ rank ecosystem (0 ∷ 2 ∷ 3 ∷ []) wish))
+    none 3 1 (omega arith) (
+      all_three,
+      All-nil (λ (wish : List (Alternative ℕ)). rank ecosystem and_version_1 wish
+          ≡ rank ecosystem (0 ∷ 2 ∷ 3 ∷ []) wish),
+    )
 
 -- but not where it is wished
 abbrev wish : List (Alternative ℕ)
@@ -143,7 +155,8 @@ wish = record { solvable = 1; is_picked = true } ∷ []
 
 pub version_1_wished : IsSpare ecosystem requested (wish ∷ []) and_version_1 1 → ⊥
 version_1_wished spare =
-    let same : 0 ≡ 1 = All-head (λ (wish : List (Alternative ℕ)). rank ecosystem and_version_1 wish ≡ rank ecosystem (0 ∷ 2 ∷ 3 ∷ []) wish) wish [] spare.1 in
+    let same : 0 ≡ 1 = All-head (λ (wish : List (Alternative ℕ)). rank ecosystem and_version_1 wish
+    ≡ rank ecosystem (0 ∷ 2 ∷ 3 ∷ []) wish) wish [] spare.1 in
     absurd (true≢false (ap (λ (n : ℕ). n == 0) same))
 
 -- reasons: the app is requested, and excluded. Each of the two is needed

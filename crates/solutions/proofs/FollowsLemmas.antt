@@ -1,5 +1,6 @@
 -- What follows, one step after another.
-use Rattle.std.proofs.Common.{◌≡◌, ◌∙◌, ℕ, ◌<◌, Bool, true, false, not, List, [], ◌∷◌, ◌++◌, if◌then◌else◌, length, take, get_or, ap, refl, sym, subst, true≢false, append_assoc, arith}
+use Rattle.std.proofs.Common.{◌≡◌, ◌∙◌, ℕ, ◌<◌, Bool, true, false, not, List, [], ◌∷◌, ◌++◌, if◌then◌else◌, length}
+use Rattle.std.proofs.Common.{take, get_or, ap, refl, sym, subst, true≢false, append_assoc, arith}
 use Rattle.std.specs.List.{All}
 use Rattle.std.proofs.lemmas.List.{append-nil, take-append-le, take_all}
 use Rattle.std.proofs.lemmas.List.Elements.{All-nil, All-cons, All-head, All-tail, All-append, All-get_or}
@@ -18,11 +19,13 @@ true_from false fails = refl
 -- what holds of all of two lists holds of the first one's
 pub all_left : {X : Type 0} (P : X → Type 0) (xs ys : List X) → All P (xs ++ ys) → All P xs
 all_left P [] ys all = All-nil P
-all_left P (x ∷ xs) ys all = All-cons P x xs (All-head P x (xs ++ ys) all) (all_left P xs ys (All-tail P x (xs ++ ys) all))
+all_left P (x ∷ xs) ys all = All-cons P x xs (All-head P x (xs ++ ys) all)
+    (all_left P xs ys (All-tail P x (xs ++ ys) all))
 
 module _ {N S : Type 0} where
   -- nothing follows of nothing
-  pub follows_none : (IsSuch : (Fact N S → Bool) → Type 0) (known : List (Literal N S)) → Follows IsSuch known known false
+  pub follows_none : (IsSuch : (Fact N S → Bool) → Type 0) (known : List (Literal N S)) →
+      Follows IsSuch known known false
   follows_none IsSuch known = record {
     more = [];
     is_more = sym (append-nil known);
@@ -91,29 +94,36 @@ module _ {N S : Type 0} where
       subst (λ k. is_true holds k ≡ true) (sym is) (All-get_or (λ k. is_true holds k ≡ true) known i l below true_ones)
 
   -- what was known before is true where what is known now is
-  pub follows_before : (IsSuch : (Fact N S → Bool) → Type 0) (known now : List (Literal N S)) (answer : Bool) → Follows IsSuch known now answer
+  pub follows_before : (IsSuch : (Fact N S → Bool) → Type 0) (known now : List (Literal N S)) (answer : Bool) →
+      Follows IsSuch known now answer
       → (holds : Fact N S → Bool) → AreTrue holds now → AreTrue holds known
   follows_before IsSuch known now answer f holds true_ones =
       all_left (λ l. is_true holds l ≡ true) known f.more (subst (AreTrue holds) f.is_more true_ones)
 
   -- one more step
-  pub follows_step : (IsSuch IsOne : (Fact N S → Bool) → Type 0) (known next now : List (Literal N S)) (answer wanted : Bool) → answer ≡ wanted
+  pub follows_step : (IsSuch IsOne : (Fact N S → Bool) → Type 0) (known next now : List (Literal N S))
+      (answer wanted : Bool) → answer ≡ wanted
       → ((holds : Fact N S → Bool) → IsSuch holds → AreTrue holds next → IsOne holds)
       → Follows IsSuch known next false → Follows IsOne next now answer → Follows IsSuch known now wanted
   follows_step IsSuch IsOne known next now answer wanted is such f g =
-      subst (Follows IsSuch known now) is (follows_then IsSuch known next now false answer f (follows_where IsOne IsSuch next now answer such g))
+      subst (Follows IsSuch known now) is (follows_then IsSuch known next now false answer f
+      (follows_where IsOne IsSuch next now answer such g))
 
   -- a literal that is true, and one that says of a fact that it isn't so
-  pub positive : (holds : Fact N S → Bool) (l : Literal N S) → l.value ≡ true → is_true holds l ≡ true → holds l.fact ≡ true
+  pub positive : (holds : Fact N S → Bool) (l : Literal N S) → l.value ≡ true → is_true holds l ≡ true →
+      holds l.fact ≡ true
   positive holds l value e = sym (ap (λ v. if v then holds l.fact else not (holds l.fact)) value) ∙ e
 
   pub rival_out : (holds : Fact N S → Bool) (l : Literal N S) (fact : Fact N S) → l.fact ≡ fact → l.value ≡ false
       → (holds fact ≡ true → ⊥) → is_true holds l ≡ true
   rival_out holds l fact is value fails =
-      ap (λ v. if v then holds l.fact else not (holds l.fact)) value ∙ ap (λ f. not (holds f)) is ∙ true_from (holds fact) fails
+      ap (λ v. if v then holds l.fact else not (holds l.fact)) value ∙ ap (λ f. not (holds f)) is
+      ∙ true_from (holds fact) fails
 
   -- the literals that were known before come first
-  pub follows_take : (IsSuch : (Fact N S → Bool) → Type 0) (known now : List (Literal N S)) (answer : Bool) → Follows IsSuch known now answer
+  pub follows_take : (IsSuch : (Fact N S → Bool) → Type 0) (known now : List (Literal N S)) (answer : Bool) →
+      Follows IsSuch known now answer
       → take (length known) now ≡ known
   follows_take IsSuch known now answer f =
-      ap (take (length known)) f.is_more ∙ take-append-le (length known) known f.more (omega arith) ∙ take_all (length known) known (omega arith)
+      ap (take (length known)) f.is_more ∙ take-append-le (length known) known f.more (omega arith)
+      ∙ take_all (length known) known (omega arith)

@@ -1,5 +1,6 @@
 -- What a choice of solvables meets.
-use Rattle.std.proofs.Common.{◌≡◌, ◌∙◌, ℕ, ◌<◌, Bool, true, false, not, List, Option, None, Some, length, refl, sym, subst, true≢false}
+use Rattle.std.proofs.Common.{◌≡◌, ◌∙◌, ℕ, ◌<◌, Bool, true, false, not, List, Option, None, Some, length, refl, sym}
+use Rattle.std.proofs.Common.{subst, true≢false}
 use Rattle.std.proofs.Math.Path.{fun_ext}
 use Rattle.std.specs.Prelude.{option_map, unwrap_or}
 use Rattle.std.specs.List.{All}
@@ -17,7 +18,8 @@ not_true false h = refl
 
 module _ {N S : Type 0} (p : Provider N S) where
   -- if no reason is spare, the others aren't enough
-  pub not_enough_without : (reasons : List (Reason N S)) → NoReasonSpare p reasons → (place : ℕ) → place < length reasons
+  pub not_enough_without : (reasons : List (Reason N S)) → NoReasonSpare p reasons → (place : ℕ) →
+      place < length reasons
       → AreEnough p (others place reasons) → ⊥
   not_enough_without reasons none place below enough =
       let choice = none place below in
@@ -25,7 +27,8 @@ module _ {N S : Type 0} (p : Provider N S) where
 
   -- a test that says which of the solvables are picked
   module _ (picked : List S) (has : S → Bool) (is : (s : S) → has s ≡ is_among p picked s) where
-    pub need_met : (parent : Option S) (c : ConditionalRequirement) → (unwrap_or (option_map has parent) true ≡ true → IsSatisfied p has c)
+    pub need_met : (parent : Option S) (c : ConditionalRequirement) →
+        (unwrap_or (option_map has parent) true ≡ true → IsSatisfied p has c)
         → IfPicked p picked parent (IsSatisfied p (is_among p picked) c)
     need_met None c met = subst (λ test. IsSatisfied p test c) (fun_ext is) (met refl)
     need_met (Some s) c met = λ among. subst (λ test. IsSatisfied p test c) (fun_ext is) (met (is s ∙ among))
@@ -38,13 +41,16 @@ module _ {N S : Type 0} (p : Provider N S) where
     unpicked s absent = sym (is s) ∙ not_true (has s) absent
 
   module _ (equal : (s t : S) → p.same_solvable s t ≡ true → s ≡ t) (picked : List S) where
-    pub only_one : (s : S) → All (λ t. p.universe.solvable_name t ≡ p.universe.solvable_name s → t ≡ s) picked → IsOnlyOne p picked s
-    only_one s all = λ t among. of_picked p equal (λ t. p.universe.solvable_name t ≡ p.universe.solvable_name s → t ≡ s) picked t all among
+    pub only_one : (s : S) → All (λ t. p.universe.solvable_name t ≡ p.universe.solvable_name s → t ≡ s) picked →
+        IsOnlyOne p picked s
+    only_one s all = λ t among. of_picked p equal (λ t. p.universe.solvable_name t ≡ p.universe.solvable_name s →
+        t ≡ s) picked t all among
 
     pub no_version : (name : N) → All (λ t. p.universe.solvable_name t ≡ name → ⊥) picked → IsOneVersion p picked name
     no_version name none = λ s t among_s among_t named_s named_t.
         absurd (of_picked p equal (λ u. p.universe.solvable_name u ≡ name → ⊥) picked s none among_s named_s)
 
-  pub that_version : (picked : List S) (name : N) (s : S) → p.universe.solvable_name s ≡ name → IsOnlyOne p picked s → IsOneVersion p picked name
+  pub that_version : (picked : List S) (name : N) (s : S) → p.universe.solvable_name s ≡ name →
+      IsOnlyOne p picked s → IsOneVersion p picked name
   that_version picked name s named only = λ t u among_t among_u named_t named_u.
       only t among_t (named_t ∙ sym named) ∙ sym (only u among_u (named_u ∙ sym named))

@@ -1,5 +1,6 @@
 -- Lists of ids, one more at a time: which ids are members, and whether the members differ.
-use Rattle.std.proofs.Common.{◌≡◌, ℕ, ◌+◌, ◌<◌, Bool, true, false, ◌||◌, List, [], ◌∷◌, ◌++◌, ◌∙◌, ap, refl, sym, subst, true≢false, length, map, take, drop, get_or, drop-cons}
+use Rattle.std.proofs.Common.{◌≡◌, ℕ, ◌+◌, ◌<◌, Bool, true, false, ◌||◌, List, [], ◌∷◌, ◌++◌, ◌∙◌, ap, refl, sym}
+use Rattle.std.proofs.Common.{subst, true≢false, length, map, take, drop, get_or, drop-cons}
 use Prim.Native.Nat.{suc}
 use Rattle.std.specs.List.{AllByRecursion, IsDistinct, list_any}
 use Rattle.std.proofs.lemmas.List.{map-append, take_more, take-append-drop}
@@ -19,7 +20,8 @@ either_false : (b c : Bool) → (b || c) ≡ false → (b ≡ false) × (c ≡ f
 either_false true c h = absurd (true≢false h)
 either_false false c h = (refl, h)
 
-module _ {K : Type 0} (same : K → K → Bool) (reflexive : (k : K) → same k k ≡ true) (equal : (j k : K) → same j k ≡ true → j ≡ k) where
+module _ {K : Type 0} (same : K → K → Bool) (reflexive : (k : K) → same k k ≡ true) (equal : (j k : K) →
+    same j k ≡ true → j ≡ k) where
   -- a set that takes the next member has all up to it
   pub one_more : (old new : K → Bool) (done : List K) (next : K) → ((k : K) → old k ≡ list_any (same k) done)
       → IsUpdate old next true new → (k : K) → new k ≡ list_any (same k) (done ++ next ∷ [])
@@ -54,12 +56,14 @@ module _ {K : Type 0} (same : K → K → Bool) (reflexive : (k : K) → same k 
   differs_at first next (k ∷ done) rest h = differs_at first next done rest h.1
 
   -- members among which one stands twice don't differ
-  pub not_distinct : ((j k : K) → same j k ≡ same k j) → (done rest : List K) (next : K) → list_any (same next) done ≡ true
+  pub not_distinct : ((j k : K) → same j k ≡ same k j) → (done rest : List K) (next : K) →
+      list_any (same next) done ≡ true
       → IsDistinct same (done ++ next ∷ rest) → ⊥
   not_distinct flips [] rest next e h = true≢false (sym e)
   not_distinct flips (first ∷ done) rest next e h =
       (elim (same next first) as (λ b. same next first ≡ b → (b || list_any (same next) done) ≡ true → ⊥) [
-        | true ↦ λ is or. true≢false (sym is ∙ flips next first ∙ differs_at first next done rest (IsDistinct-head same first (done ++ next ∷ rest) h))
+        | true ↦ λ is or. true≢false (sym is ∙ flips next first
+            ∙ differs_at first next done rest (IsDistinct-head same first (done ++ next ∷ rest) h))
         | false ↦ λ is or. not_distinct flips done rest next or (IsDistinct-tail same first (done ++ next ∷ rest) h)
       ]) refl e
 
@@ -68,20 +72,24 @@ module _ {K : Type 0} (same : K → K → Bool) (reflexive : (k : K) → same k 
   unfolding IsDistinct
   no_members = tt
 
-  module _ {X : Type 0} (key : X → K) (xs : List X) (i : ℕ) (x : X) (below : i < length xs) (is : x ≡ get_or xs i x) where
+  module _ {X : Type 0} (key : X → K) (xs : List X) (i : ℕ) (x : X) (below : i < length xs)
+      (is : x ≡ get_or xs i x) where
     -- the keys up to the next element, and its own
     pub more_keys : map key (take (i + 1) xs) ≡ map key (take i xs) ++ key x ∷ []
     more_keys =
-        ap (map key) (take_more xs i x below ∙ ap (λ y. take i xs ++ y ∷ []) (sym is)) ∙ map-append key (take i xs) (x ∷ [])
+        ap (map key) (take_more xs i x below ∙ ap (λ y. take i xs ++ y ∷ []) (sym is))
+        ∙ map-append key (take i xs) (x ∷ [])
 
     -- all keys
     all_keys : map key xs ≡ map key (take i xs) ++ key x ∷ map key (drop (suc i) xs)
     all_keys =
         ap (map key) (sym (take-append-drop i xs)) ∙ map-append key (take i xs) (drop i xs)
-        ∙ ap (λ rest. map key (take i xs) ++ map key rest) (drop-cons xs i x below ∙ ap (λ y. y ∷ drop (suc i) xs) (sym is))
+        ∙ ap (λ rest. map key (take i xs) ++ map key rest) (drop-cons xs i x below
+        ∙ ap (λ y. y ∷ drop (suc i) xs) (sym is))
 
     -- the next key is among those before it
     pub repeated : ((j k : K) → same j k ≡ same k j) → list_any (same (key x)) (map key (take i xs)) ≡ true
         → IsDistinct same (map key xs) → ⊥
     repeated flips among distinct =
-        not_distinct flips (map key (take i xs)) (map key (drop (suc i) xs)) (key x) among (subst (IsDistinct same) all_keys distinct)
+        not_distinct flips (map key (take i xs)) (map key (drop (suc i) xs)) (key x) among
+        (subst (IsDistinct same) all_keys distinct)

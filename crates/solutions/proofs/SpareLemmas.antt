@@ -1,5 +1,6 @@
 -- What can't be left out.
-use Rattle.std.proofs.Common.{◌≡◌, ◌∙◌, ℕ, Bool, true, false, not, ◌&&◌, List, [], ◌∷◌, map, ap, refl, sym, subst, true≢false, nat_eq}
+use Rattle.std.proofs.Common.{◌≡◌, ◌∙◌, ℕ, Bool, true, false, not, ◌&&◌, List, [], ◌∷◌, map, ap, refl, sym, subst}
+use Rattle.std.proofs.Common.{true≢false, nat_eq}
 use Rattle.std.specs.Bool.{Decides}
 use Rattle.std.specs.Cmp.Lexicographic.{pointwise}
 use Rattle.std.specs.List.{All, list_any}
@@ -56,7 +57,8 @@ module _ {N S : Type 0} (p : Provider N S) where
 
   module _ (requested : List ConditionalRequirement) (has : S → Bool) where
     -- what doesn't satisfy the requirement at a place is no solution
-    pub requirement_fails : (place : ℕ) (c : ConditionalRequirement) → slice_get requested place ≡ Some c → (b : Bool) → b ≡ false
+    pub requirement_fails : (place : ℕ) (c : ConditionalRequirement) → slice_get requested place ≡ Some c →
+        (b : Bool) → b ≡ false
         → Decides b (IsSatisfied p has c) → IsNoSolution p requested has
     requirement_fails place c at b is_false decides = λ rest is solution.
         let here : IsSatisfied p (is_among p rest) c =
@@ -65,7 +67,8 @@ module _ {N S : Type 0} (p : Provider N S) where
         refuted is_false decides (subst (λ h. IsSatisfied p h c) (sym (fun_ext is)) here)
 
     -- what doesn't satisfy the needs of one of its own is no solution
-    pub needs_fail : ((s t : S) → p.same_solvable s t ≡ true → s ≡ t) → (parent : S) → has parent ≡ true → (b : Bool) → b ≡ false
+    pub needs_fail : ((s t : S) → p.same_solvable s t ≡ true → s ≡ t) → (parent : S) → has parent ≡ true →
+        (b : Bool) → b ≡ false
         → Decides b (AreNeedsSatisfied p has (p.answers.needs parent)) → IsNoSolution p requested has
     needs_fail equal parent among b is_false decides = λ rest is solution.
         let found : list_any (p.same_solvable parent) rest ≡ true = sym (is parent) ∙ among in
@@ -78,7 +81,8 @@ module _ {N S : Type 0} (p : Provider N S) where
         refuted is_false decides (subst (λ h. AreNeedsSatisfied p h (p.answers.needs parent)) (sym (fun_ext is)) here)
 
 -- a set of solvables from which one is left out has the others
-pub others_kept : {S : Type 0} (same : S → S → Bool) → ((s t : S) → same s t ≡ true → s ≡ t) → (has : S → Bool) (solvables : List S) (left_out : S)
+pub others_kept : {S : Type 0} (same : S → S → Bool) → ((s t : S) → same s t ≡ true → s ≡ t) →
+    (has : S → Bool) (solvables : List S) (left_out : S)
     → ((s : S) → has s ≡ list_any (same s) solvables) → (s : S)
     → is_kept same has (Some left_out) s ≡ list_any (same s) (filter (λ t. not (same t left_out)) solvables)
 others_kept same equal has solvables left_out is s =

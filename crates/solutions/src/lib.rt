@@ -1,7 +1,7 @@
 //! Whether versions are a solution, and the best one, and that there is none: all is decided over the packages alone,
 //! and proved.
 //!
-//! A search for versions promises nothing: what it says is checked at its end, by code that it shares nothing with.
+//! A search for versions promises nothing: what it says is checked at its end, by code that isn't the search's.
 //!
 //! - [`is_solution`] checks what was picked: the request and each picked version's requirements are satisfied, its
 //!   constraints are respected, and at most one version of a package is picked. Each picked version is allowed: its

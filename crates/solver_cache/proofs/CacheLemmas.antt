@@ -23,7 +23,8 @@ use Rattle.providers.specs.contracts.requirement.RequirementPartialEq.TheImpl.{e
 use Rattle.providers.specs.declared.candidates.Candidates.{Candidates}
 use Rattle.providers.specs.declared.dependencies.Dependencies.{Dependencies}
 use Rattle.providers.specs.declared.requirement.Requirement.{Requirement}
-use Rattle.solver_cache.specs.Cache.{Cache, IsAnswer, IsCache, is_queried, is_set_queried, is_cached, same_set, sorted_of, list_at}
+use Rattle.solver_cache.specs.Cache.{Cache, IsAnswer, IsCache, is_queried, is_set_queried, is_cached, same_set}
+use Rattle.solver_cache.specs.Cache.{sorted_of, list_at}
 use Rattle.solver_cache.specs.declared.list_id.ListKind.TheVariants.{Matching, NonMatching, Sorted}
 use Rattle.providers.specs.Requirement.{same_requirement}
 use Rattle.providers.specs.declared.requirement.Requirement.TheVariants.{Single, Union}
@@ -38,29 +39,35 @@ use Rattle.solver_cache.specs.declared.error.CacheError.TheVariants.{Store, Canc
 
 module _ {K V : Type 0} where
   -- what is kept is kept with an entry more
-  pub kept_more : (test : K → Bool) (es : List (K × V)) (e : K × V) → is_cached test es ≡ true → is_cached test (es ++ e ∷ []) ≡ true
+  pub kept_more : (test : K → Bool) (es : List (K × V)) (e : K × V) → is_cached test es ≡ true →
+      is_cached test (es ++ e ∷ []) ≡ true
   kept_more test [] e h = cc
   kept_more test (f ∷ es) e h =
-      (elim (test f.0) as (λ b. is_some (cond b (Some f.1) (lookup test es)) ≡ true → is_some (cond b (Some f.1) (lookup test (es ++ e ∷ []))) ≡ true)
+      (elim (test f.0) as (λ b. is_some (cond b (Some f.1) (lookup test es)) ≡ true →
+      is_some (cond b (Some f.1) (lookup test (es ++ e ∷ []))) ≡ true)
       [ true ↦ λ h. h | false ↦ λ h. kept_more test es e h ]) h
 
   -- and so is the last one
-  pub kept_last : (test : K → Bool) (es : List (K × V)) (key : K) (value : V) → test key ≡ true → is_cached test (es ++ (key, value) ∷ []) ≡ true
+  pub kept_last : (test : K → Bool) (es : List (K × V)) (key : K) (value : V) → test key ≡ true →
+      is_cached test (es ++ (key, value) ∷ []) ≡ true
   kept_last test [] key value h = ap (λ b. is_some (cond b (Some value) None)) h
   kept_last test (f ∷ es) key value h =
       elim (test f.0) as (λ b. is_some (cond b (Some f.1) (lookup test (es ++ (key, value) ∷ []))) ≡ true)
       [ true ↦ refl | false ↦ kept_last test es key value h ]
 
   -- and it is what is found, where nothing was
-  pub found_last : (test : K → Bool) (es : List (K × V)) (key : K) (value : V) → is_cached test es ≡ false → test key ≡ true
+  pub found_last : (test : K → Bool) (es : List (K × V)) (key : K) (value : V) → is_cached test es ≡ false →
+      test key ≡ true
       → lookup test (es ++ (key, value) ∷ []) ≡ Some value
   found_last test [] key value absent h = ap (λ b. cond b (Some value) None) h
   found_last test (f ∷ es) key value absent h =
-      (elim (test f.0) as (λ b. is_some (cond b (Some f.1) (lookup test es)) ≡ false → cond b (Some f.1) (lookup test (es ++ (key, value) ∷ [])) ≡ Some value)
+      (elim (test f.0) as (λ b. is_some (cond b (Some f.1) (lookup test es)) ≡ false →
+      cond b (Some f.1) (lookup test (es ++ (key, value) ∷ [])) ≡ Some value)
       [ true ↦ λ a. cc | false ↦ λ a. found_last test es key value a h ]) absent
 
   -- what is true of each entry is true of the one that is found
-  pub found_right : (same : K → K → Bool) → ((a b : K) → same a b ≡ true → a ≡ b) → (P : K → V → Type 0) (key : K) (value : V) (es : List (K × V))
+  pub found_right : (same : K → K → Bool) → ((a b : K) → same a b ≡ true → a ≡ b) →
+      (P : K → V → Type 0) (key : K) (value : V) (es : List (K × V))
       → All (λ e. P e.0 e.1) es → lookup (same key) es ≡ Some value → P key value
   found_right same is_sameness P key value [] all h = (let no : ⊥ = cc in absurd no)
   found_right same is_sameness P key value (e ∷ es) all h =
@@ -70,11 +77,13 @@ module _ {K V : Type 0} where
           (lookup (same key) es ≡ Some value → P key value) → P key value
       by_test true t h rest =
           let is : e.1 ≡ value = cc in
-          subst (λ v. P key v) is (subst (λ k. P k e.1) (sym (is_sameness key e.0 t)) (All-head (λ e. P e.0 e.1) e es all))
+          subst (λ v. P key v) is (subst (λ k. P k e.1) (sym (is_sameness key e.0 t))
+          (All-head (λ e. P e.0 e.1) e es all))
       by_test false t h rest = rest h
 
   -- the value of the last entry
-  pub value_last : (es : List (K × V)) (key : K) (value : V) → slice_get (values_of (es ++ (key, value) ∷ [])) (length es) ≡ Some value
+  pub value_last : (es : List (K × V)) (key : K) (value : V) →
+      slice_get (values_of (es ++ (key, value) ∷ [])) (length es) ≡ Some value
   value_last [] key value = refl
   value_last (e ∷ es) key value = value_last es key value
 
@@ -86,7 +95,8 @@ pub some_is : {X : Type 0} (x y : X) → Some x ≡ Some y → x ≡ y
 some_is x y h = cc
 
 -- an answer that is kept, in its place
-pub kept_answer : {K V : Type 0} (same : K → K → Bool) → ((a b : K) → same a b ≡ true → a ≡ b) → (P : K → V → Type 0) (key : K) (place : ℕ) (es : List (K × V))
+pub kept_answer : {K V : Type 0} (same : K → K → Bool) → ((a b : K) → same a b ≡ true → a ≡ b) →
+    (P : K → V → Type 0) (key : K) (place : ℕ) (es : List (K × V))
     → All (λ e. P e.0 e.1) es → is_cached (same key) es ≡ true → slice_get (values_of es) place ≡ lookup (same key) es
     → (value : V) × (slice_get (values_of es) place ≡ Some value) × P key value
 kept_answer same is_sameness P key place es all kept at =
@@ -94,7 +104,8 @@ kept_answer same is_sameness P key place es all kept at =
     (some.0, at ∙ some.1, found_right same is_sameness P key some.0 es all some.1)
 
 -- the answers in one place of equal entries
-pub same_answer : {K V : Type 0} (es fs : List (K × V)) (place : ℕ) (v w : V) → es ≡ fs → slice_get (values_of es) place ≡ Some v
+pub same_answer : {K V : Type 0} (es fs : List (K × V)) (place : ℕ) (v w : V) → es ≡ fs →
+    slice_get (values_of es) place ≡ Some v
     → slice_get (values_of fs) place ≡ Some w → v ≡ w
 same_answer es fs place v w e at there =
     let both : Some v ≡ Some w = sym at ∙ ap (λ l. slice_get (values_of l) place) e ∙ there in
@@ -123,12 +134,14 @@ pub on_err : {T E : Type 0} (P : Type 0) (result : Result T E) → P → OnErr r
 on_err P (Ok v) h = tt
 on_err P (Err e) h = h
 
-pub handed_on : {T E : Type 0} (P : E → Type 0) (result : Result T E) (e : E) → IsErrAnd result (λ x. x ≡ e) → P e → IfErr result P
+pub handed_on : {T E : Type 0} (P : E → Type 0) (result : Result T E) (e : E) → IsErrAnd result (λ x. x ≡ e) → P e →
+    IfErr result P
 handed_on P (Ok v) e h r = absurd h
 handed_on P (Err x) e h r = subst P (sym h) r
 
 -- what wasn't asked for may be refused for want of ids
-pub refused_unasked : (queried lacks : Bool) (e : StoreError) → queried ≡ false → IsGrowthRefusal lacks e → IsGrowthRefusal (not queried && lacks) e
+pub refused_unasked : (queried lacks : Bool) (e : StoreError) → queried ≡ false → IsGrowthRefusal lacks e →
+    IsGrowthRefusal (not queried && lacks) e
 refused_unasked false lacks e h r = r
 refused_unasked true lacks e h r = cc
 
@@ -141,7 +154,8 @@ pub begins_same : {X : Type 0} (xs : List X) → BeginsWith xs xs
 begins_same xs = take-length xs
 
 -- a question that isn't kept
-pub once_new : {X : Type 0} (kept : Bool) (old new : X) (Found : X → Type 0) → kept ≡ false → Found new → IsOnce kept old Found new
+pub once_new : {X : Type 0} (kept : Bool) (old new : X) (Found : X → Type 0) → kept ≡ false → Found new →
+    IsOnce kept old Found new
 once_new kept old new Found e found = subst (λ b. IsOnce b old Found new) (sym e) found
 
 pub once_kept : {X : Type 0} (kept : Bool) (old : X) (Found : X → Type 0) → kept ≡ true → IsOnce kept old Found old
@@ -159,7 +173,8 @@ module _ {D N S A H : Type 0} (has : H → S → Bool) where
     hinted = λ s h. h;
   }
 
-  pub later_marked : (c : Cache D N S A H) (hinted : H) → ((s : S) → has c.hinted s ≡ true → has hinted s ≡ true) → IsLater has c (record c { hinted = hinted })
+  pub later_marked : (c : Cache D N S A H) (hinted : H) → ((s : S) → has c.hinted s ≡ true → has hinted s ≡ true) →
+      IsLater has c (record c { hinted = hinted })
   later_marked c hinted more = record {
     provider = refl;
     candidates = begins_same c.candidates;
@@ -170,7 +185,8 @@ module _ {D N S A H : Type 0} (has : H → S → Bool) where
     hinted = more;
   }
 
-  pub later_asked : (c : Cache D N S A H) (n : N) (answer : Candidates S A) (hinted : H) → ((s : S) → has c.hinted s ≡ true → has hinted s ≡ true)
+  pub later_asked : (c : Cache D N S A H) (n : N) (answer : Candidates S A) (hinted : H) →
+      ((s : S) → has c.hinted s ≡ true → has hinted s ≡ true)
       → IsLater has c (record c { candidates = c.candidates ++ (n, answer) ∷ []; hinted = hinted })
   later_asked c n answer hinted more = record {
     provider = refl;
@@ -184,7 +200,8 @@ module _ {D N S A H : Type 0} (has : H → S → Bool) where
 
 -- ---- what is kept is right
 
-module _ {D N S A H : Type 0} {may : MayAnswer N S A} (p : Provider N S) (c : Cache D N S A H) (is : IsCache p may c) where
+module _ {D N S A H : Type 0} {may : MayAnswer N S A} (p : Provider N S) (c : Cache D N S A H)
+    (is : IsCache p may c) where
   pub right_marked : (hinted : H) → IsCache p may (record c { hinted = hinted })
   right_marked hinted = record {
     answers = is.answers;
@@ -201,8 +218,16 @@ module _ {D N S A H : Type 0} {may : MayAnswer N S A} (p : Provider N S) (c : Ca
     answers = All-push (λ e. IsAnswer p may e.0 e.1) c.candidates (n, answer) is.answers h;
     fits = All-push (λ e. p.is_large_name e.0 ≡ false) c.candidates (n, answer) is.fits fit;
     matching = λ k d lt. ((is.matching k d lt).0, kept_more _ c.candidates (n, answer) (is.matching k d lt).1);
-    non_matching = λ k d lt. ((is.non_matching k d lt).0, kept_more _ c.candidates (n, answer) (is.non_matching k d lt).1);
-    sorted = λ k d lt. ((is.sorted k d lt).0, λ i v below. kept_more _ c.candidates (n, answer) ((is.sorted k d lt).1 i v below));
+    non_matching = λ k d lt. (
+      (is.non_matching k d lt).0,
+      kept_more _ c.candidates (n, answer)
+          (is.non_matching k d lt).1,
+    );
+    sorted = λ k d lt. (
+      (is.sorted k d lt).0,
+      λ i v below. kept_more _ c.candidates (n, answer)
+          ((is.sorted k d lt).1 i v below),
+    );
     needs = is.needs;
   }
 
@@ -217,18 +242,21 @@ module _ {D N S A H : Type 0} {may : MayAnswer N S A} (p : Provider N S) (c : Ca
     needs = All-push (λ e. needs_of e.1 ≡ p.answers.needs e.0) c.dependencies (s, answer) is.needs h;
   }
 
-  pub right_matched : (v : VersionSetId) (list : List S) → list ≡ matching p.universe p.answers v → is_set_queried p c v ≡ true
+  pub right_matched : (v : VersionSetId) (list : List S) → list ≡ matching p.universe p.answers v →
+      is_set_queried p c v ≡ true
       → IsCache p may (record c { matching = c.matching ++ (v, list) ∷ [] })
   right_matched v list h queried = record {
     answers = is.answers;
     fits = is.fits;
-    matching = All-push (λ e. (e.1 ≡ matching p.universe p.answers e.0) × (is_set_queried p c e.0 ≡ true)) c.matching (v, list) is.matching (h, queried);
+    matching = All-push (λ e. (e.1 ≡ matching p.universe p.answers e.0)
+        × (is_set_queried p c e.0 ≡ true)) c.matching (v, list) is.matching (h, queried);
     non_matching = is.non_matching;
     sorted = is.sorted;
     needs = is.needs;
   }
 
-  pub right_unmatched : (v : VersionSetId) (list : List S) → list ≡ non_matching p.universe p.answers v → is_set_queried p c v ≡ true
+  pub right_unmatched : (v : VersionSetId) (list : List S) → list ≡ non_matching p.universe p.answers v →
+      is_set_queried p c v ≡ true
       → IsCache p may (record c { non_matching = c.non_matching ++ (v, list) ∷ [] })
   right_unmatched v list h queried = record {
     answers = is.answers;
@@ -240,28 +268,33 @@ module _ {D N S A H : Type 0} {may : MayAnswer N S A} (p : Provider N S) (c : Ca
     needs = is.needs;
   }
 
-  pub right_sorted : (r : Requirement) (list : List S) → list ≡ sorted_of p r → All (λ v. is_set_queried p c v ≡ true) (sets_of p.universe r)
+  pub right_sorted : (r : Requirement) (list : List S) → list ≡ sorted_of p r →
+      All (λ v. is_set_queried p c v ≡ true) (sets_of p.universe r)
       → IsCache p may (record c { sorted = c.sorted ++ (r, list) ∷ [] })
   right_sorted r list h queried = record {
     answers = is.answers;
     fits = is.fits;
     matching = is.matching;
     non_matching = is.non_matching;
-    sorted = All-push (λ e. (e.1 ≡ sorted_of p e.0) × All (λ v. is_set_queried p c v ≡ true) (sets_of p.universe e.0)) c.sorted (r, list) is.sorted (h, queried);
+    sorted = All-push (λ e. (e.1 ≡ sorted_of p e.0)
+        × All (λ v. is_set_queried p c v ≡ true) (sets_of p.universe e.0)) c.sorted (r, list) is.sorted (h, queried);
     needs = is.needs;
   }
 
-  pub right_single : (v : VersionSetId) (list : List S) → list ≡ sorted p.universe p.answers p.same_solvable v → is_set_queried p c v ≡ true
+  pub right_single : (v : VersionSetId) (list : List S) → list ≡ sorted p.universe p.answers p.same_solvable v →
+      is_set_queried p c v ≡ true
       → IsCache p may (record c { sorted = c.sorted ++ (Single v, list) ∷ [] })
   right_single v list h queried =
       right_sorted (Single v) list (h ∙ sym (append-nil (sorted p.universe p.answers p.same_solvable v)))
       (All-push (λ v. is_set_queried p c v ≡ true) [] v (λ k d lt. (let no : ⊥ = omega arith in absurd no)) queried)
 
   -- the answer that is kept of a package
-  pub found_answer : ((a b : N) → p.same_name a b ≡ true → a ≡ b) → (n : N) (place : ℕ) → is_cached (p.same_name n) c.candidates ≡ true
+  pub found_answer : ((a b : N) → p.same_name a b ≡ true → a ≡ b) → (n : N) (place : ℕ) →
+      is_cached (p.same_name n) c.candidates ≡ true
       → slice_get (values_of c.candidates) place ≡ lookup (p.same_name n) c.candidates
       → (answer : Candidates S A) × (slice_get (values_of c.candidates) place ≡ Some answer) × IsAnswer p may n answer
-  found_answer is_sameness n place kept at = kept_answer p.same_name is_sameness (IsAnswer p may) n place c.candidates is.answers kept at
+  found_answer is_sameness n place kept at =
+      kept_answer p.same_name is_sameness (IsAnswer p may) n place c.candidates is.answers kept at
 
   -- what is kept of a version set, and that its package was asked for
   pub found_matching : (v : VersionSetId) (place : ℕ) → is_cached (same_set v) c.matching ≡ true →
@@ -282,7 +315,8 @@ module _ {D N S A H : Type 0} {may : MayAnswer N S A} (p : Provider N S) (c : Ca
 
   pub found_sorted : (r : Requirement) (place : ℕ) → is_cached (same_requirement r) c.sorted ≡ true →
       slice_get (values_of c.sorted) place ≡ lookup (same_requirement r) c.sorted
-      → (list_at c (Sorted, place) ≡ Some (sorted_of p r)) × All (λ v. is_set_queried p c v ≡ true) (sets_of p.universe r)
+      → (list_at c (Sorted, place) ≡ Some (sorted_of p r))
+      × All (λ v. is_set_queried p c v ≡ true) (sets_of p.universe r)
   found_sorted r place kept at =
       let found = kept_answer same_requirement requirements_same (λ r list. (list ≡ sorted_of p r) ×
       All (λ v. is_set_queried p c v ≡ true) (sets_of p.universe r)) r place c.sorted is.sorted kept at in
@@ -290,10 +324,13 @@ module _ {D N S A H : Type 0} {may : MayAnswer N S A} (p : Provider N S) (c : Ca
 
   pub found_single : (v : VersionSetId) (place : ℕ) → is_cached (same_requirement (Single v)) c.sorted ≡ true
       → slice_get (values_of c.sorted) place ≡ lookup (same_requirement (Single v)) c.sorted
-      → (list_at c (Sorted, place) ≡ Some (sorted p.universe p.answers p.same_solvable v)) × (is_set_queried p c v ≡ true)
+      → (list_at c (Sorted, place) ≡ Some (sorted p.universe p.answers p.same_solvable v))
+      × (is_set_queried p c v ≡ true)
   found_single v place kept at =
-      let found = found_sorted (Single v) place kept at in
-      (found.0 ∙ ap Some (append-nil (sorted p.universe p.answers p.same_solvable v)), All-head (λ v. is_set_queried p c v ≡ true) v [] found.1)
+      let found = found_sorted (Single v) place kept at in (
+        found.0 ∙ ap Some (append-nil (sorted p.universe p.answers p.same_solvable v)),
+        All-head (λ v. is_set_queried p c v ≡ true) v [] found.1,
+      )
 
 -- another list that is the same
 pub more_list : {D N S A H : Type 0} (c : Cache D N S A H) (r : Requirement) (list other : List S) → list ≡ other
@@ -309,9 +346,13 @@ module _ {D N S A H : Type 0} (c mid : Cache D N S A H) (e : c ≡ mid) where
   pub more_non_matching : (v : VersionSetId) (list : List S) →
       record c { non_matching = c.non_matching ++ (v, list) ∷ [] } ≡
       record mid { non_matching = mid.non_matching ++ (v, list) ∷ [] }
-  more_non_matching v list = ap (λ (x : Cache D N S A H). record x { non_matching = x.non_matching ++ (v, list) ∷ [] }) e
+  more_non_matching v list = ap (λ (x : Cache D N S A H). record x {
+    non_matching =
+        x.non_matching ++ (v, list) ∷ [];
+  }) e
 
-  pub more_sorted : (r : Requirement) (list : List S) → record c { sorted = c.sorted ++ (r, list) ∷ [] } ≡ record mid { sorted = mid.sorted ++ (r, list) ∷ [] }
+  pub more_sorted : (r : Requirement) (list : List S) → record c { sorted = c.sorted ++ (r, list) ∷ [] }
+      ≡ record mid { sorted = mid.sorted ++ (r, list) ∷ [] }
   more_sorted r list = ap (λ (x : Cache D N S A H). record x { sorted = x.sorted ++ (r, list) ∷ [] }) e
 
 -- nothing is kept
@@ -337,13 +378,16 @@ right_new p provider hinted = record {
 -- ---- version sets in turn
 
 -- what is kept is kept behind others
-kept_front : {K V : Type 0} (test : K → Bool) (es more : List (K × V)) → is_cached test es ≡ true → is_cached test (es ++ more) ≡ true
+kept_front : {K V : Type 0} (test : K → Bool) (es more : List (K × V)) → is_cached test es ≡ true →
+    is_cached test (es ++ more) ≡ true
 kept_front test [] more h = cc
 kept_front test (e ∷ es) more h =
-    (elim (test e.0) as (λ b. is_some (cond b (Some e.1) (lookup test es)) ≡ true → is_some (cond b (Some e.1) (lookup test (es ++ more))) ≡ true)
+    (elim (test e.0) as (λ b. is_some (cond b (Some e.1) (lookup test es)) ≡ true →
+    is_some (cond b (Some e.1) (lookup test (es ++ more))) ≡ true)
     [ true ↦ λ h. h | false ↦ λ h. kept_front test es more h ]) h
 
-pub kept_later : {K V : Type 0} (test : K → Bool) (es fs : List (K × V)) → BeginsWith es fs → is_cached test es ≡ true → is_cached test fs ≡ true
+pub kept_later : {K V : Type 0} (test : K → Bool) (es fs : List (K × V)) → BeginsWith es fs →
+    is_cached test es ≡ true → is_cached test fs ≡ true
 kept_later test es fs begins h =
     subst (λ l. is_cached test l ≡ true) (ap (λ l. l ++ drop (length es) fs) (sym begins) ∙
     take-append-drop (length es) fs) (kept_front test es (drop (length es) fs) h)
@@ -351,7 +395,8 @@ kept_later test es fs begins h =
 pub begins_trans : {X : Type 0} (xs ys zs : List X) → BeginsWith xs ys → BeginsWith ys zs → BeginsWith xs zs
 begins_trans xs ys zs first second =
     let shorter : length xs ≤ length ys = omega (arith, length-take (length xs) ys, ap length first) in
-    ap (take (length xs)) (sym (take-append-drop (length ys) zs)) ∙ take-append-le (length xs) (take (length ys) zs) (drop (length ys) zs) (rw second shorter)
+    ap (take (length xs)) (sym (take-append-drop (length ys) zs))
+    ∙ take-append-le (length xs) (take (length ys) zs) (drop (length ys) zs) (rw second shorter)
     ∙ ap (take (length xs)) second ∙ first
 
 module _ {D N S A H : Type 0} (has : H → S → Bool) where
@@ -366,7 +411,8 @@ module _ {D N S A H : Type 0} (has : H → S → Bool) where
     hinted = λ s h. second.hinted s (first.hinted s h);
   }
 
-  pub asked_later : (p : Provider N S) (v : VersionSetId) (c d : Cache D N S A H) → IsLater has c d → is_set_queried p c v ≡ true → is_set_queried p d v ≡ true
+  pub asked_later : (p : Provider N S) (v : VersionSetId) (c d : Cache D N S A H) → IsLater has c d →
+      is_set_queried p c v ≡ true → is_set_queried p d v ≡ true
   asked_later p v c d later h = kept_later _ c.candidates d.candidates later.candidates h
 
   -- one version set more
@@ -377,12 +423,14 @@ module _ {D N S A H : Type 0} (has : H → S → Bool) where
   sorted_push p may (w ∷ vs) v c d e first next = (first.0, first.1, sorted_push p may vs v first.0 d e first.2 next)
 
 -- where no answer can be kept for a package, none can be later
-more_used : (large many : Bool) (used later : ℕ) → used ≤ later → (large || (many && leb (2 ^ 32) used)) ≡ true → (large || (many && leb (2 ^ 32) later)) ≡ true
+more_used : (large many : Bool) (used later : ℕ) → used ≤ later → (large || (many && leb (2 ^ 32) used)) ≡ true →
+    (large || (many && leb (2 ^ 32) later)) ≡ true
 more_used true many used later more h = refl
 more_used false false used later more h = h
 more_used false true used later more h = grind (arith, nat_tests)
 
-pub lacks_later : {D N S A H : Type 0} (has : H → S → Bool) (p : Provider N S) (n : N) (c d : Cache D N S A H) → IsLater has c d
+pub lacks_later : {D N S A H : Type 0} (has : H → S → Bool) (p : Provider N S) (n : N) (c d : Cache D N S A H) →
+    IsLater has c d
     → lacks_candidates p c n ≡ true → lacks_candidates p d n ≡ true
 lacks_later has p n c d later h =
     more_used (p.is_large_name n) p.are_names_many (length c.candidates) (length d.candidates)
@@ -394,7 +442,8 @@ refusal_wider a b OutOfMemory h r = r
 refusal_wider a b IdSpace h r = h r
 refusal_wider a b _ h r = absurd r
 
-module _ {D N S A H : Type 0} (has : H → S → Bool) (p : Provider N S) (old mid new : Cache D N S A H) (earlier : IsLater has old mid)
+module _ {D N S A H : Type 0} (has : H → S → Bool) (p : Provider N S) (old mid new : Cache D N S A H)
+    (earlier : IsLater has old mid)
     (later : IsLater has mid new) (vs : List VersionSetId) (i : ℕ) (d : VersionSetId) (lt : i < length vs) where
   abbrev v : VersionSetId
   v = get_or vs i d
@@ -421,11 +470,13 @@ module _ {D N S A H : Type 0} (has : H → S → Bool) (p : Provider N S) (old m
       test : VersionSetId → Bool
       test w = not (is_set_queried p old w) && lacks w
 
-      this : (a b : Bool) → is_set_queried p mid v ≡ a → (b ≡ true → lacks v ≡ true) → (not a && b) ≡ true → test v ≡ true
+      this : (a b : Bool) → is_set_queried p mid v ≡ a → (b ≡ true → lacks v ≡ true) → (not a && b) ≡ true →
+          test v ≡ true
       this true b queried more h = cc
       this false b queried more h = ap (λ a. not a && lacks v) (not_asked queried) ∙ more h
 
-      wider : (not (is_set_queried p mid v) && lacks_candidates p mid (p.universe.set_name v)) ≡ true → list_any test vs ≡ true
+      wider : (not (is_set_queried p mid v) && lacks_candidates p mid (p.universe.set_name v)) ≡ true →
+          list_any test vs ≡ true
       wider h = list_any_at test vs i d lt (this _ _ refl (lacks_later has p (p.universe.set_name v) mid new later) h)
 
 -- ---- a union that isn't kept
@@ -435,29 +486,36 @@ none_of None h = refl
 none_of (Some x) h = cc
 
 -- an entry that doesn't pass changes no look-up
-skips : {K V : Type 0} (test : K → Bool) (es : List (K × V)) (e : K × V) → test e.0 ≡ false → is_cached test (es ++ e ∷ []) ≡ is_cached test es
+skips : {K V : Type 0} (test : K → Bool) (es : List (K × V)) (e : K × V) → test e.0 ≡ false →
+    is_cached test (es ++ e ∷ []) ≡ is_cached test es
 skips test [] e h = ap (λ b. is_some (cond b (Some e.1) None)) h
 skips test (f ∷ es) e h =
-    elim (test f.0) as (λ b. is_some (cond b (Some f.1) (lookup test (es ++ e ∷ []))) ≡ is_some (cond b (Some f.1) (lookup test es)))
+    elim (test f.0) as (λ b. is_some (cond b (Some f.1) (lookup test (es ++ e ∷ [])))
+    ≡ is_some (cond b (Some f.1) (lookup test es)))
     [ true ↦ refl | false ↦ skips test es e h ]
 
-module _ {D N S A H : Type 0} (has : H → S → Bool) (p : Provider N S) (may : MayAnswer N S A) (u : VersionSetUnionId) where
+module _ {D N S A H : Type 0} (has : H → S → Bool) (p : Provider N S) (may : MayAnswer N S A)
+    (u : VersionSetUnionId) where
   abbrev kept_union : Cache D N S A H → Bool
   kept_union c = is_cached (same_requirement (Union u)) c.sorted
 
   asked_skips : (n : N) (c d : Cache D N S A H) → IsQueried p may has c n d → kept_union d ≡ kept_union c
   asked_skips n c d h = by_kept (is_queried p c n) h
     where
-      by_kept : (b : Bool) → IsOnce b c (λ new. (answer : Candidates S A) × IsAnswer p may n answer × IsMarked p may has c (hints_of answer) new.hinted ×
-          (new ≡ record c { candidates = c.candidates ++ (n, answer) ∷ []; hinted = new.hinted })) d → kept_union d ≡ kept_union c
+      by_kept : (b : Bool) → IsOnce b c (λ new. (answer : Candidates S A) × IsAnswer p may n answer
+          × IsMarked p may has c (hints_of answer) new.hinted ×
+          (new ≡ record c { candidates = c.candidates ++ (n, answer) ∷ []; hinted = new.hinted })) d →
+          kept_union d ≡ kept_union c
       by_kept true h = ap kept_union h
       by_kept false h = ap kept_union h.3
 
   matched_skips : (v : VersionSetId) (c d : Cache D N S A H) → IsMatched p may has c v d → kept_union d ≡ kept_union c
   matched_skips v c d h = by_kept (is_cached (same_set v) c.matching) h
     where
-      by_kept : (b : Bool) → IsOnce b c (λ new. (mid : Cache D N S A H) × IsQueried p may has c (p.universe.set_name v) mid ×
-          (new ≡ record mid { matching = mid.matching ++ (v, matching p.universe p.answers v) ∷ [] })) d → kept_union d ≡ kept_union c
+      by_kept : (b : Bool) → IsOnce b c (λ new. (mid : Cache D N S A H)
+          × IsQueried p may has c (p.universe.set_name v) mid ×
+          (new ≡ record mid { matching = mid.matching ++ (v, matching p.universe p.answers v) ∷ [] })) d →
+          kept_union d ≡ kept_union c
       by_kept true h = ap kept_union h
       by_kept false h = ap kept_union h.2 ∙ asked_skips (p.universe.set_name v) c h.0 h.1
 
@@ -465,13 +523,17 @@ module _ {D N S A H : Type 0} (has : H → S → Bool) (p : Provider N S) (may :
   sorted_skips v c d h = by_kept (is_cached (same_requirement (Single v)) c.sorted) h
     where
       by_kept : (b : Bool) → IsOnce b c (λ new. (mid : Cache D N S A H) × IsMatched p may has c v mid ×
-          (new ≡ record mid { sorted = mid.sorted ++ (Single v, sorted p.universe p.answers p.same_solvable v) ∷ [] })) d → kept_union d ≡ kept_union c
+          (new ≡ record mid {
+            sorted = mid.sorted ++ (Single v, sorted p.universe p.answers p.same_solvable v)
+                ∷ [];
+          })) d → kept_union d ≡ kept_union c
       by_kept true h = ap kept_union h
       by_kept false h =
           ap kept_union h.2 ∙ skips (same_requirement (Union u)) h.0.sorted
           (Single v, sorted p.universe p.answers p.same_solvable v) refl ∙ matched_skips v c h.0 h.1
 
   -- version sets that are asked for in turn keep no union
-  pub union_still_new : (vs : List VersionSetId) (c d : Cache D N S A H) → AreSorted p may has c vs d → kept_union c ≡ false → kept_union d ≡ false
+  pub union_still_new : (vs : List VersionSetId) (c d : Cache D N S A H) → AreSorted p may has c vs d →
+      kept_union c ≡ false → kept_union d ≡ false
   union_still_new [] c d h new = ap kept_union h ∙ new
   union_still_new (v ∷ vs) c d h new = union_still_new vs h.0 d h.2 (sorted_skips v c h.0 h.1 ∙ new)

@@ -30,7 +30,8 @@ module _ {S : Type 0} (same : S → S → Bool) (sameness : (a b : S) → same a
 
   -- once the items up to it are turned by one, it is in front
   pub brought_forward : (list turned : List S) (place : ℕ) → position_from (λ t. same t s) 0 list ≡ Some place
-      → turned ≡ drop (length (take (place + 1) list) - 1) (take (place + 1) list) ++ take (length (take (place + 1) list) - 1) (take (place + 1) list)
+      → turned ≡ drop (length (take (place + 1) list) - 1) (take (place + 1) list) ++ take
+      (length (take (place + 1) list) - 1) (take (place + 1) list)
       → turned ++ drop (place + 1) list ≡ from_place s list (position_from (λ t. same t s) 0 list)
   brought_forward list turned place found is =
       let there = stands_there list 0 place found in
@@ -38,11 +39,13 @@ module _ {S : Type 0} (same : S → S → Bool) (sameness : (a b : S) → same a
       let next : place + 1 ≡ suc place = omega arith in
       let before = take place list in
       let upto : take (place + 1) list ≡ before ++ s ∷ [] =
-      take_more list place s (omega (arith, all, there.1)) ∙ ap (λ t. before ++ t ∷ []) (ap (λ n. get_or list n s) (sym all) ∙ there.2) in
+      take_more list place s (omega (arith, all, there.1))
+      ∙ ap (λ t. before ++ t ∷ []) (ap (λ n. get_or list n s) (sym all) ∙ there.2) in
       let count : length (before ++ s ∷ []) - 1 ≡ length before = omega (arith, length-append before (s ∷ [])) in
       let front : turned ≡ s ∷ before =
       is ∙ ap (λ l. drop (length l - 1) l ++ take (length l - 1) l) upto
       ∙ ap (λ n. drop n (before ++ s ∷ []) ++ take n (before ++ s ∷ [])) count
       ∙ (ap (λ l. l ++ take (length before) (before ++ s ∷ [])) (drop-append_seam before (s ∷ []))
       ∙ ap (λ l. s ∷ l) (take-append_seam before (s ∷ []))) in
-      ap (λ l. l ++ drop (place + 1) list) front ∙ ap (λ n. s ∷ (before ++ drop n list)) next ∙ sym (ap (from_place s list) found)
+      ap (λ l. l ++ drop (place + 1) list) front ∙ ap (λ n. s ∷ (before ++ drop n list)) next
+      ∙ sym (ap (from_place s list) found)

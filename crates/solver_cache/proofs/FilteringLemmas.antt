@@ -21,16 +21,21 @@ module _ {D N S A H : Type 0} (has : H → S → Bool) where
     pub asked_matching : (n : N) (c d : Cache D N S A H) → IsQueried p may has c n d → d.matching ≡ c.matching
     asked_matching n c d h = by_kept (is_queried p c n) h
       where
-        by_kept : (b : Bool) → IsOnce b c (λ new. (answer : Candidates S A) × IsAnswer p may n answer × IsMarked p may has c (hints_of answer) new.hinted ×
-            (new ≡ record c { candidates = c.candidates ++ (n, answer) ∷ []; hinted = new.hinted })) d → d.matching ≡ c.matching
+        by_kept : (b : Bool) → IsOnce b c (λ new. (answer : Candidates S A) × IsAnswer p may n answer
+            × IsMarked p may has c (hints_of answer) new.hinted ×
+            (new ≡ record c { candidates = c.candidates ++ (n, answer) ∷ []; hinted = new.hinted })) d →
+            d.matching ≡ c.matching
         by_kept true h = ap (λ (x : Cache D N S A H). x.matching) h
         by_kept false h = ap (λ (x : Cache D N S A H). x.matching) h.3
 
-    pub asked_non_matching : (n : N) (c d : Cache D N S A H) → IsQueried p may has c n d → d.non_matching ≡ c.non_matching
+    pub asked_non_matching : (n : N) (c d : Cache D N S A H) → IsQueried p may has c n d →
+        d.non_matching ≡ c.non_matching
     asked_non_matching n c d h = by_kept (is_queried p c n) h
       where
-        by_kept : (b : Bool) → IsOnce b c (λ new. (answer : Candidates S A) × IsAnswer p may n answer × IsMarked p may has c (hints_of answer) new.hinted ×
-            (new ≡ record c { candidates = c.candidates ++ (n, answer) ∷ []; hinted = new.hinted })) d → d.non_matching ≡ c.non_matching
+        by_kept : (b : Bool) → IsOnce b c (λ new. (answer : Candidates S A) × IsAnswer p may n answer
+            × IsMarked p may has c (hints_of answer) new.hinted ×
+            (new ≡ record c { candidates = c.candidates ++ (n, answer) ∷ []; hinted = new.hinted })) d →
+            d.non_matching ≡ c.non_matching
         by_kept true h = ap (λ (x : Cache D N S A H). x.non_matching) h
         by_kept false h = ap (λ (x : Cache D N S A H). x.non_matching) h.3
 

@@ -32,8 +32,10 @@ module _ {S : Type 0} (same : S → S → Bool) (is_large : S → Bool) (hinted 
   no_hints s = or_nothing (hinted s)
 
   -- one hint more
-  pub one_hint : (now later : S → Bool) (done : List S) (x : S) → ((s : S) → now s ≡ with_hints same is_large hinted done s)
-      → ((s : S) → later s ≡ with_hints same is_large now (x ∷ []) s) → (s : S) → later s ≡ with_hints same is_large hinted (done ++ x ∷ []) s
+  pub one_hint : (now later : S → Bool) (done : List S) (x : S) →
+      ((s : S) → now s ≡ with_hints same is_large hinted done s)
+      → ((s : S) → later s ≡ with_hints same is_large now (x ∷ []) s) → (s : S) →
+      later s ≡ with_hints same is_large hinted (done ++ x ∷ []) s
   one_hint now later done x is next s =
       next s ∙ ap (λ b. b || (list_any (same s) (x ∷ []) && not (is_large s))) (is s)
       ∙ either (hinted s) (list_any (same s) done) (list_any (same s) (x ∷ [])) (not (is_large s))
@@ -44,7 +46,8 @@ module _ {S : Type 0} (same : S → S → Bool) (is_large : S → Bool) (hinted 
   still_marked hints s h = or_kept (hinted s) _ h
 
   -- what some hints mark, more hints mark
-  pub more_hints : (hints more : List S) (s : S) → with_hints same is_large hinted hints s ≡ true → with_hints same is_large hinted (hints ++ more) s ≡ true
+  pub more_hints : (hints more : List S) (s : S) → with_hints same is_large hinted hints s ≡ true →
+      with_hints same is_large hinted (hints ++ more) s ≡ true
   more_hints hints more s h =
       ap (λ b. hinted s || (b && not (is_large s))) (list_any-append (same s) hints more)
       ∙ wider (hinted s) (list_any (same s) hints) (list_any (same s) more) (not (is_large s)) h

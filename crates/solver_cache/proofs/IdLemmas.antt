@@ -10,7 +10,8 @@ use Rattle.solver_cache.specs.Functions.{Provider, MayAnswer}
 use Rattle.solver_cache.proofs.CacheLemmas.{some_of, found_right}
 
 -- only names that may be more than 2^32 use up all ids
-pub used_up_by_many : (many large : Bool) (count : ℕ) → (many ≡ false → count < 2 ^ 32) → (leb (2 ^ 32) count || large) ≡ true
+pub used_up_by_many : (many large : Bool) (count : ℕ) → (many ≡ false → count < 2 ^ 32) →
+    (leb (2 ^ 32) count || large) ≡ true
     → (large || (many && leb (2 ^ 32) count)) ≡ true
 used_up_by_many many true count few h = refl
 used_up_by_many true false count few h = by_test (leb (2 ^ 32) count) h
@@ -38,5 +39,7 @@ module _ {D N S A H : Type 0} {may : MayAnswer N S A} (p : Provider N S) (c : Ca
       found_right p.same_name is_sameness (λ m answer. p.is_large_name m ≡ false) n found.0 c.candidates is.fits found.1
 
   -- nor is any of several
-  pub all_asked_fit : (vs : List VersionSetId) → All (λ v. is_set_queried p c v ≡ true) vs → list_any (λ v. p.is_large_name (p.universe.set_name v)) vs ≡ false
-  all_asked_fit vs queried = list_any_none (λ v. p.is_large_name (p.universe.set_name v)) vs (λ k d lt. asked_fits (get_or vs k d) (queried k d lt))
+  pub all_asked_fit : (vs : List VersionSetId) → All (λ v. is_set_queried p c v ≡ true) vs →
+      list_any (λ v. p.is_large_name (p.universe.set_name v)) vs ≡ false
+  all_asked_fit vs queried = list_any_none (λ v. p.is_large_name (p.universe.set_name v)) vs
+      (λ k d lt. asked_fits (get_or vs k d) (queried k d lt))

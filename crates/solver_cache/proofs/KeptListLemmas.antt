@@ -1,5 +1,6 @@
 -- Lists that are kept by keys, in a table whose values hold more than the lists.
-use Rattle.std.proofs.Common.{◌≡◌, Bool, ℕ, List, [], ◌∷◌, ◌++◌, length, map, slice_get, is_some, Option, None, Some, option_map, ◌∙◌, ap, refl, sym}
+use Rattle.std.proofs.Common.{◌≡◌, Bool, ℕ, List, [], ◌∷◌, ◌++◌, length, map, slice_get, is_some, Option, None, Some}
+use Rattle.std.proofs.Common.{option_map, ◌∙◌, ap, refl, sym}
 use Rattle.std.specs.Map.{lookup, values_of}
 use Rattle.std.proofs.lemmas.List.{length-map, map-append}
 use Rattle.std.proofs.lemmas.Map.Made.{lookup-map_values}
@@ -18,10 +19,12 @@ module _ {K V L : Type 0} (list : V → L) where
   lists entries = map (λ e. (e.0, list e.1)) entries
 
   -- a list is found where an entry is
-  pub found : (test : K → Bool) (entries : List (K × V)) → is_some (lookup test entries) ≡ is_some (lookup test (lists entries))
+  pub found : (test : K → Bool) (entries : List (K × V)) →
+      is_some (lookup test entries) ≡ is_some (lookup test (lists entries))
   found test entries = sym (ap is_some (lookup-map_values list test entries) ∙ same_some list (lookup test entries))
 
-  at_values : (place : ℕ) (entries : List (K × V)) → slice_get (values_of (lists entries)) place ≡ option_map list (slice_get (values_of entries) place)
+  at_values : (place : ℕ) (entries : List (K × V)) → slice_get (values_of (lists entries)) place
+      ≡ option_map list (slice_get (values_of entries) place)
   at_values place entries =
       slice_get-map (λ (e : K × L). e.1) (lists entries) place
       ∙ ap (option_map (λ (e : K × L). e.1)) (slice_get-map (λ (e : K × V). (e.0, list e.1)) entries place)
@@ -38,21 +41,26 @@ module _ {K V L : Type 0} (list : V → L) where
   list_at place v entries at = at_values place entries ∙ ap (option_map list) at
 
   -- and the list of the key whose place it is
-  pub list_found : (test : K → Bool) (place : ℕ) (entries : List (K × V)) → slice_get (values_of entries) place ≡ lookup test entries
+  pub list_found : (test : K → Bool) (place : ℕ) (entries : List (K × V)) →
+      slice_get (values_of entries) place ≡ lookup test entries
       → slice_get (values_of (lists entries)) place ≡ lookup test (lists entries)
-  list_found test place entries at = at_values place entries ∙ ap (option_map list) at ∙ sym (lookup-map_values list test entries)
+  list_found test place entries at = at_values place entries ∙ ap (option_map list) at
+      ∙ sym (lookup-map_values list test entries)
 
 none_below : {V L : Type 0} (list : V → L) (o : Option V) → option_map list o ≡ None → o ≡ None
 none_below list None h = refl
 none_below list (Some v) h = cc
 
-module _ {K V L H : Type 0} (list : V → L) (eq : K → K → Bool) (key : K) (m : IndexMap K V H) (absent : lookup (eq key) (lists list m.entries) ≡ None) where
+module _ {K V L H : Type 0} (list : V → L) (eq : K → K →
+    Bool) (key : K) (m : IndexMap K V H) (absent : lookup (eq key) (lists list m.entries) ≡ None) where
   none : lookup (eq key) m.entries ≡ None
   none = none_below list _ (sym (lookup-map_values list (eq key) m.entries) ∙ absent)
 
   -- a key without a list gets the last place
   pub last_place : insert_index eq m key ≡ length (lists list m.entries)
-  last_place = or_len-absent (eq key) m.entries (absent_from_lookup (eq key) m.entries none) ∙ sym (length-map m.entries (λ e. (e.0, list e.1)))
+  last_place = or_len-absent (eq key) m.entries (absent_from_lookup (eq key) m.entries none)
+      ∙ sym (length-map m.entries (λ e. (e.0, list e.1)))
 
   pub list_last : (v : V) → lists list (insert_entry eq m.entries key v) ≡ lists list m.entries ++ (key, list v) ∷ []
-  list_last v = ap (lists list) (insert_entry-new eq m key v none) ∙ map-append (λ e. (e.0, list e.1)) m.entries ((key, v) ∷ [])
+  list_last v = ap (lists list) (insert_entry-new eq m key v none)
+      ∙ map-append (λ e. (e.0, list e.1)) m.entries ((key, v) ∷ [])

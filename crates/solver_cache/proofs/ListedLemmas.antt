@@ -1,5 +1,6 @@
 -- Where lists are kept: what later states and lists of places show.
-use Rattle.std.proofs.Common.{◌≡◌, ℕ, ◌<◌, Bool, List, [], ◌∷◌, ◌++◌, length, map, slice_get, Some, drop, ◌∙◌, ap, refl, sym, arith}
+use Rattle.std.proofs.Common.{◌≡◌, ℕ, ◌<◌, Bool, List, [], ◌∷◌, ◌++◌, length, map, slice_get, Some, drop, ◌∙◌, ap}
+use Rattle.std.proofs.Common.{refl, sym, arith}
 use Rattle.std.specs.Prelude.{flat_map, unwrap_or}
 use Rattle.std.specs.Map.{values_of}
 use Rattle.std.proofs.lemmas.List.{map-append, take-append-drop, get_or_append_left, length-append}
@@ -16,7 +17,8 @@ stays : {X : Type 0} (xs ys : List X) (i : ℕ) (x : X) → slice_get xs i ≡ S
 stays xs ys i x at =
     let within : i < length xs = slice_get_within xs i x at in
     let longer : i < length (xs ++ ys) = (let size = length-append xs ys in omega (arith, size)) in
-    slice_get-get_or (xs ++ ys) i x longer ∙ ap Some (get_or_append_left xs ys x i within ∙ get_or_from_slice_get xs i x x at)
+    slice_get-get_or (xs ++ ys) i x longer ∙ ap Some (get_or_append_left xs ys x i within
+    ∙ get_or_from_slice_get xs i x x at)
 
 -- what is kept at a place stays there
 value_later : {K V : Type 0} (es fs : List (K × V)) (place : ℕ) (value : V) → BeginsWith es fs
@@ -28,14 +30,17 @@ value_later {K} {V} es fs place value begins at =
     ∙ stays (values_of es) (values_of more) place value at
 
 module _ {D N S A H : Type 0} (has : H → S → Bool) where
-  pub list_later : (c d : Cache D N S A H) (id : ListKind × ℕ) (list : List S) → IsLater has c d → list_at c id ≡ Some list → list_at d id ≡ Some list
+  pub list_later : (c d : Cache D N S A H) (id : ListKind × ℕ) (list : List S) → IsLater has c d →
+      list_at c id ≡ Some list → list_at d id ≡ Some list
   list_later c d (Matching, place) list later at = value_later c.matching d.matching place list later.matching at
-  list_later c d (NonMatching, place) list later at = value_later c.non_matching d.non_matching place list later.non_matching at
+  list_later c d (NonMatching, place) list later at =
+      value_later c.non_matching d.non_matching place list later.non_matching at
   list_later c d (Sorted, place) list later at = value_later c.sorted d.sorted place list later.sorted at
 
   module _ (p : Provider N S) where
     -- one list more, in a later state
-    pub listed_push : (c d : Cache D N S A H) (ids : List (ListKind × ℕ)) (vs : List VersionSetId) (id : ListKind × ℕ) (v : VersionSetId) → IsLater has c d
+    pub listed_push : (c d : Cache D N S A H) (ids : List (ListKind × ℕ)) (vs : List VersionSetId) (id : ListKind
+        × ℕ) (v : VersionSetId) → IsLater has c d
         → AreListed p c ids vs → list_at d id ≡ Some (sorted_of_set p v) → AreListed p d (ids ++ id ∷ []) (vs ++ v ∷ [])
     listed_push c d [] [] id v later are at = ap (λ o. o ∷ []) at
     listed_push c d [] (w ∷ vs) id v later are at = (let no : ⊥ = cc in absurd no)
@@ -60,7 +65,8 @@ module _ {D N S A H : Type 0} (p : Provider N S) (c : Cache D N S A H) where
       ∙ ap (λ l. sorted_of_set p w ++ l) (listed_joined ids vs others)
 
   -- what is made of each list is made of the candidates of its version set
-  pub listed_mapped : {X : Type 0} (ids : List (ListKind × ℕ)) (vs : List VersionSetId) (f : List S → X) → AreListed p c ids vs
+  pub listed_mapped : {X : Type 0} (ids : List (ListKind × ℕ)) (vs : List VersionSetId) (f : List S → X) →
+      AreListed p c ids vs
       → map (λ id. f (listed c id)) ids ≡ map (λ v. f (sorted_of_set p v)) vs
   listed_mapped [] [] f are = refl
   listed_mapped [] (w ∷ vs) f are = (let no : ⊥ = cc in absurd no)
@@ -68,4 +74,5 @@ module _ {D N S A H : Type 0} (p : Provider N S) (c : Cache D N S A H) where
   listed_mapped (i ∷ ids) (w ∷ vs) f are =
       let first : list_at c i ≡ Some (sorted_of_set p w) = cc in
       let others : map (list_at c) ids ≡ map (λ u. Some (sorted_of_set p u)) vs = cc in
-      ap (λ o. f (unwrap_or o []) ∷ map (λ id. f (listed c id)) ids) first ∙ ap (λ l. f (sorted_of_set p w) ∷ l) (listed_mapped ids vs f others)
+      ap (λ o. f (unwrap_or o []) ∷ map (λ id. f (listed c id)) ids) first
+      ∙ ap (λ l. f (sorted_of_set p w) ∷ l) (listed_mapped ids vs f others)

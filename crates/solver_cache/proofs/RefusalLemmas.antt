@@ -5,15 +5,18 @@ use Rattle.std.specs.Prelude.{◌&&◌, ◌||◌, not}
 use Rattle.typed_ids.specs.declared.version_set_id.VersionSetId.{VersionSetId}
 use Rattle.solver_cache.specs.Cache.{Cache, is_queried, is_set_queried, is_fetched}
 use Rattle.solver_cache.specs.Functions.{Provider, MayAnswer}
-use Rattle.solver_cache.specs.Outcomes.{RefusesCandidates, RefusesFiltered, RefusesSorted, RefusesSets, RefusesDependencies}
-use Rattle.solver_cache.specs.Questions.{IsRefusal, IsRefusedOf, IsRefusedOfSets, lacks_candidates, lacks_dependencies, may_lack_candidates}
+use Rattle.solver_cache.specs.Outcomes.{RefusesCandidates, RefusesFiltered, RefusesSorted, RefusesSets}
+use Rattle.solver_cache.specs.Outcomes.{RefusesDependencies}
+use Rattle.solver_cache.specs.Questions.{IsRefusal, IsRefusedOf, IsRefusedOfSets, lacks_candidates}
+use Rattle.solver_cache.specs.Questions.{lacks_dependencies, may_lack_candidates}
 use Rattle.solver_cache.specs.Refused.{MayRefuseName, MayRefuseSet, MayRefuseSets, MayRefuseNeeds}
 use Rattle.solver_cache.specs.declared.error.CacheError.{CacheError}
 use Rattle.solver_cache.specs.declared.error.CacheError.TheVariants.{Store, Cancelled}
 use Rattle.solver_cache.proofs.CacheLemmas.{refusal_wider}
 
 -- of one question
-refusal_of_one : {D N S A H C : Type 0} (queried lacks : Bool) (old new : Cache D N S A H) (e : CacheError C) → IsRefusedOf queried lacks old e new
+refusal_of_one : {D N S A H C : Type 0} (queried lacks : Bool) (old new : Cache D N S A H) (e : CacheError C) →
+    IsRefusedOf queried lacks old e new
     → IsRefusal queried lacks e
 refusal_of_one queried lacks old new (Cancelled reason) h = h.0
 refusal_of_one queried lacks old new (Store e) h = h
@@ -25,17 +28,20 @@ module _ {X : Type 0} (queried lacks may_lack : X → Bool) (wider : (x : X) →
   not_all (x ∷ xs) h = by_test (queried x) (not_all xs) h
     where
       by_test : (a : Bool) → (list_any (λ y. not (queried y) && lacks y) xs ≡ true → not (list_all queried xs) ≡ true)
-          → ((not a && lacks x) || list_any (λ y. not (queried y) && lacks y) xs) ≡ true → not (a && list_all queried xs) ≡ true
+          → ((not a && lacks x) || list_any (λ y. not (queried y) && lacks y) xs) ≡ true →
+          not (a && list_all queried xs) ≡ true
       by_test true rest h = rest h
       by_test false rest h = refl
 
   -- and it may lack something
-  any_wider : (xs : List X) → list_any (λ x. not (queried x) && lacks x) xs ≡ true → list_any (λ x. not (queried x) && may_lack x) xs ≡ true
+  any_wider : (xs : List X) → list_any (λ x. not (queried x) && lacks x) xs ≡ true →
+      list_any (λ x. not (queried x) && may_lack x) xs ≡ true
   any_wider [] h = h
   any_wider (x ∷ xs) h = by_tests (queried x) (lacks x) (may_lack x) (wider x) (any_wider xs) h
     where
       by_tests : (a b c : Bool) → (b ≡ true → c ≡ true)
-          → (list_any (λ y. not (queried y) && lacks y) xs ≡ true → list_any (λ y. not (queried y) && may_lack y) xs ≡ true)
+          → (list_any (λ y. not (queried y) && lacks y) xs ≡ true →
+          list_any (λ y. not (queried y) && may_lack y) xs ≡ true)
           → ((not a && b) || list_any (λ y. not (queried y) && lacks y) xs) ≡ true
           → ((not a && c) || list_any (λ y. not (queried y) && may_lack y) xs) ≡ true
       by_tests true b c more rest h = rest h
@@ -54,7 +60,8 @@ may false true used h = refl
 may false false used h = h
 
 -- of version sets in turn
-refusal_of_sets : {D N S A H C : Type 0} (p : Provider N S) (vs : List VersionSetId) (old new : Cache D N S A H) (e : CacheError C)
+refusal_of_sets : {D N S A H C : Type 0} (p : Provider N S) (vs : List VersionSetId) (old new : Cache D N S A H)
+    (e : CacheError C)
     → IsRefusedOfSets p vs old e new → IsRefusal (list_all (is_set_queried p old) vs) (may_lack_candidates p old vs) e
 refusal_of_sets p vs old new (Cancelled reason) h = h
 refusal_of_sets p vs old new (Store e) h =
@@ -67,7 +74,8 @@ pub refused_needs : {D N S A H C : Type 0} {p : Provider N S} {old new : Cache D
 refused_needs {p} {old} {new} {e} {s} refused =
     refusal_of_one (is_fetched p old s) (lacks_dependencies p old s) old new e refused.reason
 
-module _ {D N S A H C : Type 0} {p : Provider N S} {may : MayAnswer N S A} {has : H → S → Bool} {old new : Cache D N S A H} {e : CacheError C} where
+module _ {D N S A H C : Type 0} {p : Provider N S} {may : MayAnswer N S A} {has : H → S →
+    Bool} {old new : Cache D N S A H} {e : CacheError C} where
   pub refused_name : {n : N} → RefusesCandidates p may has old n e new → MayRefuseName p old n e
   refused_name {n} refused = refusal_of_one (is_queried p old n) (lacks_candidates p old n) old new e refused.reason
 

@@ -24,16 +24,20 @@ module _ {D N S A H : Type 0} (has : H → S → Bool) where
     asked_sorted : (n : N) (c d : Cache D N S A H) → IsQueried p may has c n d → d.sorted ≡ c.sorted
     asked_sorted n c d h = by_kept (is_queried p c n) h
       where
-        by_kept : (b : Bool) → IsOnce b c (λ new. (answer : Candidates S A) × IsAnswer p may n answer × IsMarked p may has c (hints_of answer) new.hinted ×
-            (new ≡ record c { candidates = c.candidates ++ (n, answer) ∷ []; hinted = new.hinted })) d → d.sorted ≡ c.sorted
+        by_kept : (b : Bool) → IsOnce b c (λ new. (answer : Candidates S A) × IsAnswer p may n answer
+            × IsMarked p may has c (hints_of answer) new.hinted ×
+            (new ≡ record c { candidates = c.candidates ++ (n, answer) ∷ []; hinted = new.hinted })) d →
+            d.sorted ≡ c.sorted
         by_kept true h = ap (λ (x : Cache D N S A H). x.sorted) h
         by_kept false h = ap (λ (x : Cache D N S A H). x.sorted) h.3
 
     pub matched_sorted : (v : VersionSetId) (c d : Cache D N S A H) → IsMatched p may has c v d → d.sorted ≡ c.sorted
     matched_sorted v c d h = by_kept (is_cached (same_set v) c.matching) h
       where
-        by_kept : (b : Bool) → IsOnce b c (λ new. (mid : Cache D N S A H) × IsQueried p may has c (p.universe.set_name v) mid ×
-            (new ≡ record mid { matching = mid.matching ++ (v, matching p.universe p.answers v) ∷ [] })) d → d.sorted ≡ c.sorted
+        by_kept : (b : Bool) → IsOnce b c (λ new. (mid : Cache D N S A H)
+            × IsQueried p may has c (p.universe.set_name v) mid ×
+            (new ≡ record mid { matching = mid.matching ++ (v, matching p.universe p.answers v) ∷ [] })) d →
+            d.sorted ≡ c.sorted
         by_kept true h = ap (λ (x : Cache D N S A H). x.sorted) h
         by_kept false h = ap (λ (x : Cache D N S A H). x.sorted) h.2 ∙ asked_sorted (p.universe.set_name v) c h.0 h.1
 

@@ -22,15 +22,18 @@ module _ (values : ℕ → Bool) where
   any_positive [] = refl
   any_positive (v ∷ vs) = ap (λ b. values v || b) (any_positive vs)
 
-  any_listed : (lists : List (List ℕ)) → list_any (is_true values) (flat_map (map Pos) lists) ≡ list_any (list_any values) lists
+  any_listed : (lists : List (List ℕ)) → list_any (is_true values) (flat_map (map Pos) lists)
+      ≡ list_any (list_any values) lists
   any_listed [] = refl
   any_listed (vs ∷ lists) =
       any_append (is_true values) (map Pos vs) (flat_map (map Pos) lists)
-      ∙ ap (λ b. b || list_any (is_true values) (flat_map (map Pos) lists)) (any_positive vs) ∙ ap (λ b. list_any values vs || b) (any_listed lists)
+      ∙ ap (λ b. b || list_any (is_true values) (flat_map (map Pos) lists)) (any_positive vs)
+      ∙ ap (λ b. list_any values vs || b) (any_listed lists)
 
   requires_true : (k : StoredLiterals) (parent : ℕ) (d : Option ℕ) (r : Requirement) (N : Type 0) →
       (let c : Clause N = Requires parent d r in list_any (is_true values) (literals_of k c))
-      ≡ (not (values parent) || (list_any (is_true values) (condition_literals k d) || list_any (list_any values) (k.lists r)))
+      ≡ (not (values parent) || (list_any (is_true values) (condition_literals k d) || list_any (list_any values)
+      (k.lists r)))
   requires_true k parent d r N =
       ap (λ b. not (values parent) || b)
       (any_append (is_true values) (condition_literals k d) (flat_map (map Pos) (k.lists r)) ∙

@@ -1,6 +1,7 @@
 -- What a typed call tells: an assignment, a load, a clause that is registered, a decision; and that what is refused
 -- changes nothing.
-use Rattle.std.proofs.Common.{◌≡◌, ℕ, Bool, true, false, cond, not, List, [], ◌∷◌, ◌++◌, Option, None, Some, length, refl, sym, subst, ap, ◌∙◌}
+use Rattle.std.proofs.Common.{◌≡◌, ℕ, Bool, true, false, cond, not, List, [], ◌∷◌, ◌++◌, Option, None, Some, length}
+use Rattle.std.proofs.Common.{refl, sym, subst, ap, ◌∙◌}
 use Rattle.std.specs.Prelude.{Result, Ok, Err, OnOk, OnErr, IfErr, MatchOption, option_map}
 use Rattle.std.specs.Bool.{beq}
 use Rattle.resolvo_ids.specs.Types.StoreError.{StoreError}
@@ -13,8 +14,10 @@ use Rattle.resolvo_queue.specs.declared.offer.Offer.{Offer}
 use Rattle.resolvo_store.specs.declared.answers.Assignment.{Assignment}
 use Rattle.resolvo_store.specs.declared.answers.Assignment.TheVariants as Made
 use Rattle.resolvo_store.specs.Answers.{assignment}
-use Rattle.resolvo_store.specs.Command.{Command, Load, Requires, Assign, Decide, LoadedAs, ClauseIs, Already, Clash, Falsified, Refused, is_saturate}
-use Rattle.resolvo_store.specs.Outcome.{adds_clause, assign_reply, assigned, decision, falsified_clause, picked, with_registered}
+use Rattle.resolvo_store.specs.Command.{Command, Load, Requires, Assign, Decide, LoadedAs, ClauseIs, Already, Clash}
+use Rattle.resolvo_store.specs.Command.{Falsified, Refused, is_saturate}
+use Rattle.resolvo_store.specs.Outcome.{adds_clause, assign_reply, assigned, decision, falsified_clause, picked}
+use Rattle.resolvo_store.specs.Outcome.{with_registered}
 use Rattle.resolvo_store.specs.Refusals.{first_refusal}
 use Rattle.resolvo_store.specs.Step.{IsAnswered, Step}
 use Rattle.resolvo_store.specs.Store.{Store, values, lists_of}
@@ -33,15 +36,18 @@ on_error P (Err e) p = p
 
 module _ {N S : Type 0} where
   -- a command but Saturate that is refused changes nothing
-  pub refused_stays : (old new : Store N S) (c : Command N S) (e : StoreError) → is_saturate c ≡ false → Step old c (Refused e) new → new ≡ old
+  pub refused_stays : (old new : Store N S) (c : Command N S) (e : StoreError) → is_saturate c ≡ false →
+      Step old c (Refused e) new → new ≡ old
   refused_stays old new c e plain step = by_refusal (first_refusal old c) step
     where
-      by_refusal : (x : Option StoreError) → MatchOption x (IsAnswered old c (Refused e) new) (λ y. (Refused e ≡ Refused y) × (new ≡ old)) → new ≡ old
+      by_refusal : (x : Option StoreError) →
+          MatchOption x (IsAnswered old c (Refused e) new) (λ y. (Refused e ≡ Refused y) × (new ≡ old)) → new ≡ old
       by_refusal None h = (has_outcome old new c (Refused e) plain h).1
       by_refusal (Some y) h = h.1
 
   -- after `Already` the variable has the value, as it had before
-  known_value : (old new : Store N S) (v : ℕ) (value : Bool) (clause level : ℕ) → Step old (Assign v value clause level) Already new
+  known_value : (old new : Store N S) (v : ℕ) (value : Bool) (clause level : ℕ) →
+      Step old (Assign v value clause level) Already new
       → values new v ≡ Some value
   known_value old new v value clause level step =
       let answer = answered_by_outcome old new (Assign v value clause level) Already refl step (λ h. h) in
@@ -59,13 +65,15 @@ module _ {N S : Type 0} where
           by_both false true h = cc
           by_both false false h = refl
 
-      by_value : (o : Option Bool) → values old v ≡ o → Already ≡ assign_reply o value → val (assigned o old.trail entry) v ≡ Some value
+      by_value : (o : Option Bool) → values old v ≡ o → Already ≡ assign_reply o value →
+          val (assigned o old.trail entry) v ≡ Some value
       by_value None h e = cc
       by_value (Some known) h e = h ∙ ap Some (same known e)
 
   -- what is answered tells the variable's value: it is the one that was given, or else the other one
   pub given_value : (old new : Store N S) (v : ℕ) (value : Bool) (clause level : ℕ) (made : Assignment)
-      → Step old (Assign v value clause level) (assignment made) new → values new v ≡ Some (cond (is_given made) value (not value))
+      → Step old (Assign v value clause level) (assignment made) new →
+      values new v ≡ Some (cond (is_given made) value (not value))
   given_value old new v value clause level Made.New step = assigned_value old new v value clause level step
   given_value old new v value clause level Made.Already step = known_value old new v value clause level step
   given_value old new v value clause level Made.Clash step = clashing_value old new v value clause level step
@@ -73,11 +81,13 @@ module _ {N S : Type 0} where
   -- ---- loads
 
   -- one that was accepted adds no clause, whatever its lists are
-  loaded_adds_no_clause : (old new : Store N S) (r : Requirement) → MatchOption (lists_of new r) ⊥ (λ lists. Step old (Load r) (LoadedAs lists) new)
+  loaded_adds_no_clause : (old new : Store N S) (r : Requirement) →
+      MatchOption (lists_of new r) ⊥ (λ lists. Step old (Load r) (LoadedAs lists) new)
       → new.requires ≡ old.requires
   loaded_adds_no_clause old new r kept = by_lists (lists_of new r) kept
     where
-      by_lists : (o : Option (List (List ℕ))) → MatchOption o ⊥ (λ lists. Step old (Load r) (LoadedAs lists) new) → new.requires ≡ old.requires
+      by_lists : (o : Option (List (List ℕ))) → MatchOption o ⊥ (λ lists. Step old (Load r) (LoadedAs lists) new) →
+          new.requires ≡ old.requires
       by_lists None h = absurd h
       by_lists (Some lists) h = load_adds_no_clause old new r (LoadedAs lists) h
 
@@ -101,7 +111,8 @@ module _ {N S : Type 0} where
       by_test false h s = (let same : Refused e ≡ Refused UnknownId = s.0 in cc)
 
   pub unknown_is_refused : {T : Type 0} (old new : Store N S) (r : Requirement) (result : Result T StoreError)
-      → OnOk result (knows_requirement old.provider.universe r ≡ true) → IfErr result (λ e. Step old (Load r) (Refused e) new)
+      → OnOk result (knows_requirement old.provider.universe r ≡ true) →
+      IfErr result (λ e. Step old (Load r) (Refused e) new)
       → knows_requirement old.provider.universe r ≡ false → result ≡ Err UnknownId
   unknown_is_refused old new r (Ok x) known refused unknown = (let no : true ≡ false = sym known ∙ unknown in cc)
   unknown_is_refused old new r (Err e) known refused unknown = ap Err (refused_as_unknown old new r e refused unknown)
@@ -111,10 +122,17 @@ module _ {N S : Type 0} where
   -- a clause that requires is registered under the id that it was added under
   pub registered : (old new : Store N S) (parent : ℕ) (r : Requirement) (clause : ℕ) (conflict : Bool)
       → Step old (Requires parent r None) (ClauseIs clause conflict) new
-      → new.requires ≡ old.requires ++ (record { parent = parent; requirement = r; condition = None; clause_id = clause }) ∷ []
+      → new.requires ≡ old.requires ++ (record {
+        parent = parent;
+        requirement = r;
+        condition = None;
+        clause_id =
+            clause;
+      }) ∷ []
   registered old new parent r clause conflict step =
       let answer = answered_by_outcome old new (Requires parent r None) (ClauseIs clause conflict) refl step (λ h. h) in
-      let id : clause ≡ length old.clauses = let same : ClauseIs clause conflict ≡ ClauseIs (length old.clauses) _ = answer.0 in cc in
+      let id : clause ≡ length old.clauses = let same : ClauseIs clause conflict ≡ ClauseIs (length old.clauses) _ =
+      answer.0 in cc in
       rw id (ap (λ (st : Store N S). st.requires) answer.1)
 
   -- where a Decide answers `Falsified`, that is the first falsified clause
@@ -125,7 +143,8 @@ module _ {N S : Type 0} where
       subst (λ (st : Store N S). option_map (λ c. c.clause_id) (falsified_clause st) ≡ Some clause) (sym answer.1)
       (by_answer (falsified_clause old) (picked old) answer.0)
     where
-      by_answer : (f : Option RequiresClause) (o : Option Offer) → Falsified clause ≡ decision f o → option_map (λ c. c.clause_id) f ≡ Some clause
+      by_answer : (f : Option RequiresClause) (o : Option Offer) → Falsified clause ≡ decision f o →
+          option_map (λ c. c.clause_id) f ≡ Some clause
       by_answer (Some c) o h = (let same : Falsified clause ≡ Falsified c.clause_id = h in cc)
       by_answer None (Some o) h = cc
       by_answer None None h = cc

@@ -1,5 +1,6 @@
 -- What a command tells that is answered by a clause.
-use Rattle.std.proofs.Common.{◌≡◌, ℕ, ◌<◌, ◌+◌, Bool, true, false, cond, arith, List, [], ◌∷◌, Option, None, Some, length, length-append, ap, sym, ◌∙◌, subst}
+use Rattle.std.proofs.Common.{◌≡◌, ℕ, ◌<◌, ◌+◌, Bool, true, false, cond, arith, List, [], ◌∷◌, Option, None, Some}
+use Rattle.std.proofs.Common.{length, length-append, ap, sym, ◌∙◌, subst}
 use Rattle.std.specs.Bool.{beq}
 use Rattle.std.specs.Prelude.{◌++◌, nat_eq, slice_get, option_map, IsSome, IfSome, IfOk, Result, MatchOption, refl}
 use Rattle.std.proofs.lemmas.Result.{IfOk-weaker}
@@ -35,8 +36,10 @@ module _ {X E : Type 0} (r : Result (Option X) E) (f : X → List Lit) (there : 
       by_found (Some x) h = refl
       by_found None h = let no : None ≡ Some ls = h ∙ is in cc
 
-  pub found_same : IfOk r (λ found. option_map f found ≡ there) → there ≡ Some ls → IfOk r (λ found. IfSome found (λ x. f x ≡ ls))
-  found_same reads is = IfOk-weaker r (λ found. option_map f found ≡ there) (λ found. IfSome found (λ x. f x ≡ ls)) by_found reads
+  pub found_same : IfOk r (λ found. option_map f found ≡ there) → there ≡ Some ls →
+      IfOk r (λ found. IfSome found (λ x. f x ≡ ls))
+  found_same reads is = IfOk-weaker r (λ found. option_map f found ≡ there)
+      (λ found. IfSome found (λ x. f x ≡ ls)) by_found reads
     where
       by_found : (o : Option X) → option_map f o ≡ there → IfSome o (λ x. f x ≡ ls)
       by_found (Some x) h = let same : Some (f x) ≡ Some ls = h ∙ is in cc
@@ -53,25 +56,34 @@ module _ {N S : Type 0} where
   IsNext old new clause = (clause ≡ length old.clauses) × (length new.clauses ≡ length old.clauses + 1)
 
   -- a clause that is added gets the next id
-  added_last : (st new : Store N S) (c : Clause N) (clause : ℕ) (conflict : Bool) → ClauseIs clause conflict ≡ (adds_clause st c).reply
+  added_last : (st new : Store N S) (c : Clause N) (clause : ℕ) (conflict : Bool) →
+      ClauseIs clause conflict ≡ (adds_clause st c).reply
       → new ≡ (adds_clause st c).store → IsNext st new clause
   added_last st new c clause conflict answer is =
       let same : clause ≡ length st.clauses = cc in
       (same, ap (λ (s : Store N S). length s.clauses) is ∙ length-append st.clauses (c ∷ []))
 
   -- no other command is answered by a clause
-  by_outcome : (old new : Store N S) (c : Command N S) (clause : ℕ) (conflict : Bool) → ClauseIs clause conflict ≡ (outcome old c).reply
+  by_outcome : (old new : Store N S) (c : Command N S) (clause : ℕ) (conflict : Bool) →
+      ClauseIs clause conflict ≡ (outcome old c).reply
       → new ≡ (outcome old c).store → IsNext old new clause
   by_outcome old new (Requires parent r d) clause conflict a b =
       added_last (with_registered old parent r d) new (Kind.Requires parent d r) clause conflict a b
   by_outcome old new Root clause conflict a b = added_last old new Kind.InstallRoot clause conflict a b
-  by_outcome old new (Constrains p f v) clause conflict a b = added_last old new (Kind.Constrains p f v) clause conflict a b
-  by_outcome old new (ConstrainsExcluded x aux v) clause conflict a b = added_last old new (Kind.ConstrainsExcluded x aux v) clause conflict a b
-  by_outcome old new (ConstrainsParent p aux v) clause conflict a b = added_last old new (Kind.ConstrainsParent p aux v) clause conflict a b
-  by_outcome old new (Lock locked other) clause conflict a b = added_last old new (Kind.Lock locked other) clause conflict a b
-  by_outcome old new (Exclude v reason) clause conflict a b = added_last old new (Kind.Excluded v reason) clause conflict a b
-  by_outcome old new (AnyOf selected other) clause conflict a b = added_last old new (Kind.AnyOf selected other) clause conflict a b
-  by_outcome old new (Learnt ls) clause conflict a b = added_last (with_learnt old ls) new (Kind.Learnt (length old.learnt)) clause conflict a b
+  by_outcome old new (Constrains p f v) clause conflict a b =
+      added_last old new (Kind.Constrains p f v) clause conflict a b
+  by_outcome old new (ConstrainsExcluded x aux v) clause conflict a b =
+      added_last old new (Kind.ConstrainsExcluded x aux v) clause conflict a b
+  by_outcome old new (ConstrainsParent p aux v) clause conflict a b =
+      added_last old new (Kind.ConstrainsParent p aux v) clause conflict a b
+  by_outcome old new (Lock locked other) clause conflict a b =
+      added_last old new (Kind.Lock locked other) clause conflict a b
+  by_outcome old new (Exclude v reason) clause conflict a b =
+      added_last old new (Kind.Excluded v reason) clause conflict a b
+  by_outcome old new (AnyOf selected other) clause conflict a b =
+      added_last old new (Kind.AnyOf selected other) clause conflict a b
+  by_outcome old new (Learnt ls) clause conflict a b =
+      added_last (with_learnt old ls) new (Kind.Learnt (length old.learnt)) clause conflict a b
   by_outcome old new (Load r) clause conflict a b = absurd (by_lists (lists_of old r) a)
     where
       by_lists : (o : Option (List (List ℕ))) → ClauseIs clause conflict ≡ (load old r o).reply → ⊥
@@ -91,7 +103,8 @@ module _ {N S : Type 0} where
       by_entry : (o : Option Entry) → ClauseIs clause conflict ≡ (hands_next old o).reply → ⊥
       by_entry (Some e) h = cc
       by_entry None h = cc
-  by_outcome old new (AtMostOnce name v) clause conflict a b = absurd (by_test (is_tracked nat_eq (old.trackers name) v) a)
+  by_outcome old new (AtMostOnce name v) clause conflict a b =
+      absurd (by_test (is_tracked nat_eq (old.trackers name) v) a)
     where
       by_test : (t : Bool)
           → ClauseIs clause conflict ≡
@@ -113,7 +126,8 @@ module _ {N S : Type 0} where
   -- a clause that is added gets the next id
   pub added_next : (old new : Store N S) (c : Command N S) (reply : Reply) → Step old c reply new
       → (clause : ℕ) (conflict : Bool) → reply ≡ ClauseIs clause conflict → IsNext old new clause
-  added_next old new c reply step clause conflict is = by_refusal (first_refusal old c) (subst (λ x. Step old c x new) is step)
+  added_next old new c reply step clause conflict is =
+      by_refusal (first_refusal old c) (subst (λ x. Step old c x new) is step)
     where
       by_command : (d : Command N S) → IsAnswered old d (ClauseIs clause conflict) new → IsNext old new clause
       by_command (Saturate level) h = absurd h
@@ -134,11 +148,14 @@ module _ {N S : Type 0} where
 
   -- a clause that excludes a variable is there under its id, where it was added
   pub excluded_there : (old new : Store N S) (v : ℕ) (reason : StringId) (clause : ℕ) (conflict : Bool)
-      → Step old (Exclude v reason) (ClauseIs clause conflict) new → slice_get new.clauses clause ≡ Some (Kind.Excluded v reason)
+      → Step old (Exclude v reason) (ClauseIs clause conflict) new →
+      slice_get new.clauses clause ≡ Some (Kind.Excluded v reason)
   excluded_there old new v reason clause conflict step =
       let answer = answered_by_outcome old new (Exclude v reason) (ClauseIs clause conflict) refl step (λ h. h) in
-      let id : clause ≡ length old.clauses = let same : ClauseIs clause conflict ≡ (adds_clause old (Kind.Excluded v reason)).reply = answer.0 in cc in
-      let clauses : new.clauses ≡ old.clauses ++ Kind.Excluded v reason ∷ [] = ap (λ (s : Store N S). s.clauses) answer.1 in
+      let id : clause ≡ length old.clauses = let same : ClauseIs clause conflict
+      ≡ (adds_clause old (Kind.Excluded v reason)).reply = answer.0 in cc in
+      let clauses : new.clauses ≡ old.clauses ++ Kind.Excluded v reason ∷ [] =
+      ap (λ (s : Store N S). s.clauses) answer.1 in
       rw (clauses, id) (last_at old.clauses (Kind.Excluded v reason))
 
   -- the literals of a clause that excludes a variable, where it was added
@@ -154,13 +171,16 @@ module _ {N S : Type 0} where
           MatchOption e (IsAnswered old (Exclude v reason) (ClauseIs clause conflict) new) (λ x.
           (ClauseIs clause conflict ≡ Refused x) × (new ≡ old)) → goes
       by_refusal None h =
-          let id : clause ≡ length old.clauses = let same : ClauseIs clause conflict ≡ (adds_clause old (Kind.Excluded v reason)).reply = h.1 in cc in
-          let clauses : new.clauses ≡ old.clauses ++ Kind.Excluded v reason ∷ [] = ap (λ (s : Store N S). s.clauses) h.2 in
+          let id : clause ≡ length old.clauses = let same : ClauseIs clause conflict
+          ≡ (adds_clause old (Kind.Excluded v reason)).reply = h.1 in cc in
+          let clauses : new.clauses ≡ old.clauses ++ Kind.Excluded v reason ∷ [] =
+          ap (λ (s : Store N S). s.clauses) h.2 in
           rw (clauses, id, last_at old.clauses (Kind.Excluded v reason)) refl
       by_refusal (Some x) h = let no : ClauseIs clause conflict ≡ Refused x = h.0 in cc
 
   -- what a new helper variable stands for
-  pub helper_stands : (old new : Store N S) (origin : HelperOrigin N) (variable : ℕ) → Step old (Helper origin) (VariableIs variable) new
+  pub helper_stands : (old new : Store N S) (origin : HelperOrigin N) (variable : ℕ) →
+      Step old (Helper origin) (VariableIs variable) new
       → slice_get new.origins variable ≡ Some (helper_origin origin)
   helper_stands old new origin variable step = by_refusal (first_refusal old (Helper origin)) step
     where
@@ -171,7 +191,9 @@ module _ {N S : Type 0} where
           MatchOption e (IsAnswered old (Helper origin) (VariableIs variable) new) (λ x.
           (VariableIs variable ≡ Refused x) × (new ≡ old)) → goes
       by_refusal None h =
-          let id : variable ≡ length old.origins = let same : VariableIs variable ≡ VariableIs (length old.origins) = h.1 in cc in
-          let origins : new.origins ≡ old.origins ++ helper_origin origin ∷ [] = ap (λ (s : Store N S). s.origins) h.2 in
+          let id : variable ≡ length old.origins = let same : VariableIs variable ≡ VariableIs (length old.origins) =
+          h.1 in cc in
+          let origins : new.origins ≡ old.origins ++ helper_origin origin ∷ [] =
+          ap (λ (s : Store N S). s.origins) h.2 in
           rw (origins, id, last_at old.origins (helper_origin origin)) refl
       by_refusal (Some x) h = let no : VariableIs variable ≡ Refused x = h.0 in cc

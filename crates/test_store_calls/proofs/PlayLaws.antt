@@ -1,5 +1,6 @@
 -- What is computed is a run.
-use Rattle.std.proofs.Common.{◌≡◌, ℕ, Bool, true, false, cond, ◌||◌, List, [], ◌∷◌, length, Option, Some, None, refl, ap}
+use Rattle.std.proofs.Common.{◌≡◌, ℕ, Bool, true, false, cond, ◌||◌, List, [], ◌∷◌, length, Option, Some, None, refl}
+use Rattle.std.proofs.Common.{ap}
 use Rattle.std.specs.Bool.{beq}
 use Rattle.std.specs.Prelude.{nat_eq, slice_get, MatchOption}
 use Rattle.std.proofs.lemmas.List.Elements.{All-head, All-tail}
@@ -13,7 +14,8 @@ use Rattle.resolvo_store.specs.Command.{Command, Load, AtMostOnce, Assign, Unpro
 use Rattle.resolvo_store.specs.Command.{TrackedAs, Already, Clash, Refused, IsRefused, is_saturate}
 use Rattle.resolvo_store.specs.Store.{Store, values, lists_of}
 use Rattle.resolvo_store.specs.Refusals.{first_refusal}
-use Rattle.resolvo_store.specs.Outcome.{Outcome, outcome, load, hands_next, assign_reply, decision, falsified_clause, picked, tracking, with_tracked}
+use Rattle.resolvo_store.specs.Outcome.{Outcome, outcome, load, hands_next, assign_reply, decision, falsified_clause}
+use Rattle.resolvo_store.specs.Outcome.{picked, tracking, with_tracked}
 use Rattle.resolvo_store.specs.Step.{HasOutcome, IsAnswered, Step, lacks_ids, may_use_up_answers}
 use Rattle.resolvo_store.proofs.RunLemmas.{is_answered}
 use Rattle.test_store_calls.specs.Play.{answered, answer, PlayIsRun}
@@ -57,19 +59,26 @@ module _ {N S : Type 0} where
   -- where no ids are lacking, a command but Saturate is answered by its outcome
   outcome_answers : (st : Store N S) (c : Command N S) → is_saturate c ≡ false → lacks_ids st c ≡ false →
       IsAnswered st c (outcome st c).reply (outcome st c).store
-  outcome_answers st c plain few = is_answered st (outcome st c).store c (outcome st c).reply plain (by_reply (outcome st c).reply (not_refused st c) refl)
+  outcome_answers st c plain few =
+      is_answered st (outcome st c).store c (outcome st c).reply plain
+      (by_reply (outcome st c).reply (not_refused st c) refl)
     where
-      by_reply : (reply : Reply) → (IsRefused reply → ⊥) → reply ≡ (outcome st c).reply → HasOutcome st c reply (outcome st c).store
+      by_reply : (reply : Reply) → (IsRefused reply → ⊥) → reply ≡ (outcome st c).reply →
+          HasOutcome st c reply (outcome st c).store
       by_reply (Refused e) n is = absurd (n tt)
       by_reply _ n is = (few, is, refl)
 
-  answer_is_step : (st : Store N S) (c : Command N S) → is_saturate c ≡ false → Step st c (answer st c).reply (answer st c).store
+  answer_is_step : (st : Store N S) (c : Command N S) → is_saturate c ≡ false →
+      Step st c (answer st c).reply (answer st c).store
   answer_is_step st c plain = go (first_refusal st c)
     where
       by_ids : (b : Bool) → lacks_ids st c ≡ b →
           IsAnswered st c (cond b (record { reply = Refused IdSpace; store = st }) (outcome st c)).reply
           (cond b (record { reply = Refused IdSpace; store = st }) (outcome st c)).store
-      by_ids true lacks = is_answered st st c (Refused IdSpace) plain (ap (λ b. b || may_use_up_answers st c) lacks, refl)
+      by_ids true lacks = is_answered st st c (Refused IdSpace) plain (
+        ap (λ b. b || may_use_up_answers st c) lacks,
+        refl,
+      )
       by_ids false few = outcome_answers st c plain few
 
       go : (e : Option StoreError) →

@@ -3,11 +3,15 @@ use Rattle.std.proofs.Common.{[], ◌∷◌, ◌++◌, false, refl, arith}
 use Rattle.resolvo_store.proofs.SettledLaws.{settled_if}
 use Rattle.resolvo_store.specs.Command.{Assign, UndoUntil}
 use Rattle.test_store_calls.specs.ExampleWords.{two_versions}
-use Rattle.test_store_calls.specs.SaturationExamples.{SaturationExamples, state_after, no_version, with_implied, with_root, without_candidates}
+use Rattle.test_store_calls.specs.SaturationExamples.{SaturationExamples, state_after, no_version, with_implied}
+use Rattle.test_store_calls.specs.SaturationExamples.{with_root, without_candidates}
 
 pub saturation_examples : SaturationExamples
 saturation_examples = record {
-  root_implied = ((record { implied = refl; at_level = refl }, tt), settled_if (state_after two_versions with_root) refl);
+  root_implied = (
+    (record { implied = refl; at_level = refl }, tt),
+    settled_if (state_after two_versions with_root) refl,
+  );
   other_excluded = (
     (record { implied = refl; at_level = refl }, (record { implied = refl; at_level = refl }, tt)),
     settled_if (state_after two_versions with_implied) refl,
@@ -16,7 +20,10 @@ saturation_examples = record {
   settled_again = settled_if (state_after two_versions (with_implied ++ UndoUntil 1 ∷ [])) refl;
   clause_is_false = (omega arith, refl);
   level_refused_first = refl;
-  parent_implied_false =
-      ((record { implied = refl; at_level = refl }, tt), settled_if (state_after no_version (without_candidates ++ Assign 0 false 0 1 ∷ [])) refl);
+  parent_implied_false = (
+    (record { implied = refl; at_level = refl }, tt),
+    settled_if
+        (state_after no_version (without_candidates ++ Assign 0 false 0 1 ∷ [])) refl,
+  );
   implied_undone = refl;
 }

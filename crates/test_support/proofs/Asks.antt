@@ -17,9 +17,19 @@ module _ {M : Type 1} {𝓤 : Ura M} (𝓛 : Logic 𝓤) (mem : Memory → SProp
 
   -- the choices of a caller that holds the share q of the lifetime κ, and a `&` to the cell at p
   abbrev pub asks_at : Lft → Share → ℕ × ℕ → Asks.Ghost
-  asks_at κ q p = (((κ, tt), (q, tt), tt, (record { ref_ptr = p; now = record { value = tt } }, tt), (vptr p.0 p.1 ∷ [], tt)), tt)
+  asks_at κ q p = (
+    (
+      (κ, tt),
+      (q, tt),
+      tt,
+      (record { ref_ptr = p; now = record { value = tt } }, tt),
+      (vptr p.0 p.1 ∷ [], tt),
+    ),
+    tt,
+  )
 
-module _ {M : Type 1} {𝓤 : Ura M} (𝓛 : Logic 𝓤) (mem : Memory → SProp 𝓤) (run : Routine → Fun 𝓤) (κ : Lft) (q : Share) (p : ℕ × ℕ) where
+module _ {M : Type 1} {𝓤 : Ura M} (𝓛 : Logic 𝓤) (mem : Memory → SProp 𝓤) (run : Routine →
+    Fun 𝓤) (κ : Lft) (q : Share) (p : ℕ × ℕ) where
   open 𝓛 use {H, A}
 
   abbrev pub Says : Val → Bool → SProp 𝓤
@@ -30,7 +40,8 @@ module _ {M : Type 1} {𝓤 : Ura M} (𝓛 : Logic 𝓤) (mem : Memory → SProp
   asks_hands =
       qed 𝓛 (‵ (counts κ p) ∷ ‵ (flft κ q) ∷ []) ∵
       -- the one argument: a `&`, which is its address and what it shares
-      feq_i ! (List Val) (vptr p.0 p.1 ∷ []) (vptr p.0 p.1 ∷ []) refl $ fjoin ! $ nothing ! $ move ! (1 ∷ []) $ fjoin ! $
+      feq_i ! (List Val) (vptr p.0 p.1 ∷ []) (vptr p.0 p.1 ∷ []) refl $ fjoin ! $ nothing ! $ move !
+      (1 ∷ []) $ fjoin ! $
       -- the one lifetime's token, and no `requires`
       nothing ! $ move ! (2 ∷ []) $ join ! $ join ! $ nothing ! $ move ! (1 ∷ []) $ done !
 

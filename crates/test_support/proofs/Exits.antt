@@ -1,5 +1,6 @@
 -- What both methods leave of their parameters: nothing, for each of them. Assumes `Logic`.
-use Rattle.test_support.proofs.Steps.{ℕ, [], Ura, ent, Fml, ftrue, fsep, Logic, sem, ‵, ◌$◌, ◌∵◌, !, qed, done, use0, fjoin, nothing}
+use Rattle.test_support.proofs.Steps.{ℕ, [], Ura, ent, Fml, ftrue, fsep, Logic, sem, ‵, ◌$◌, ◌∵◌, !, qed, done, use0}
+use Rattle.test_support.proofs.Steps.{fjoin, nothing}
 use Rattle.std.proofs.Common.{zero, suc}
 use base.Logic.{emp}
 

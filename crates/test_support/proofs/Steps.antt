@@ -43,7 +43,8 @@ pub use denote.Opens.{unhide}
 pub use denote.Steps.{nothing, heard, only}
 -- the steps that follow the code
 pub use types.Part.{agg}
-pub use types.Run.{enter, exec, first, branches, skips, returns, returns_within, of_opd, unit_lit, lit, addr, fld, stop, and_then, no_more}
+pub use types.Run.{enter, exec, first, branches, skips, returns, returns_within, of_opd, unit_lit, lit, addr, fld}
+pub use types.Run.{stop, and_then, no_more}
 pub use types.ByLocal.{alloc_all, pass_all, free_all, look_at, get, through, sets, lands_as, env}
 pub use denote.Triple.Call.{calls_at}
 -- an allocator under a bound, and its two methods at a call

@@ -1,5 +1,6 @@
 -- The laws for callers hold.
-use Rattle.std.proofs.Common.{◌≡◌, ◌≢◌, ℕ, zero, suc, true, false, nat_eq, List, [], ◌∷◌, ◌++◌, Some, length, sym, ap, refl, subst, ◌∙◌}
+use Rattle.std.proofs.Common.{◌≡◌, ◌≢◌, ℕ, zero, suc, true, false, nat_eq, List, [], ◌∷◌, ◌++◌, Some, length, sym, ap}
+use Rattle.std.proofs.Common.{refl, subst, ◌∙◌}
 use Rattle.std.specs.List.{IsDistinct}
 use Rattle.decisions.specs.Literals.{Lit}
 use Rattle.decisions.specs.LiteralIndex.{literal_index}
@@ -20,7 +21,8 @@ use Rattle.watch_map.proofs.LinkLaws.{lists_made}
 pub same_records_belong : SameRecordsBelong
 same_records_belong map old new same watched = (
   record {
-    exact = exact_same (watched_by old) (watched_by new) (watchers map old) (watchers map new) literals lists watched.exact;
+    exact = exact_same (watched_by old) (watched_by new) (watchers map old)
+        (watchers map new) literals lists watched.exact;
     links = λ c. rw (same c) (watched.links c);
     linked = λ l. subst (IsChain (link new l) (value_at map (literal_index l))) (sym (lists l)) (linked l);
   },
@@ -39,7 +41,8 @@ same_records_belong map old new same watched = (
         (exact_same (watched_by old) (watched_by new) (watchers map old)
         (watchers map old) literals (λ l. refl) watched.exact) linked
 
-record_at_end : (watches : Watches) (watched : WatchedLiterals) → record_of (watches ++ Some watched ∷ []) (length watches) ≡ Some watched
+record_at_end : (watches : Watches) (watched : WatchedLiterals) →
+    record_of (watches ++ Some watched ∷ []) (length watches) ≡ Some watched
 record_at_end [] watched = refl
 record_at_end (w ∷ watches) watched = record_at_end watches watched
 
@@ -55,7 +58,10 @@ nothing_at_end [] = refl
 nothing_at_end (w ∷ watches) = nothing_at_end watches
 
 pub records_grow : RecordsGrow
-records_grow watches watched = (nothing_at_end watches, (record_at_end watches watched, record_elsewhere watches watched))
+records_grow watches watched = (
+  nothing_at_end watches,
+  (record_at_end watches watched, record_elsewhere watches watched),
+)
 
 pub new_clauses_join : NewClausesJoin
 new_clauses_join old new watches watched clause belong starts next =
@@ -79,16 +85,21 @@ room_is_for_fewer map l n k le room = room
 -- ---- cursors
 
 pub cursors_divide : CursorsDivide
-cursors_divide cursor map watches stands = split (clause_of cursor) (watchers map watches (literal_of cursor)) stands.member
+cursors_divide cursor map watches stands =
+    split (clause_of cursor) (watchers map watches (literal_of cursor)) stands.member
 
 pub clauses_are_met_once : ClausesAreVisitedOnce
 clauses_are_met_once cursor map watches stands clause h =
-    go (passed cursor map watches) (subst (IsDistinct nat_eq) (cursors_divide cursor map watches stands) (stands.watched.exact.once (literal_of cursor)))
+    go (passed cursor map watches) (subst (IsDistinct nat_eq) (cursors_divide cursor map watches stands)
+    (stands.watched.exact.once (literal_of cursor)))
   where
-    go : (front : List ℕ) → IsDistinct nat_eq (front ++ clause_of cursor ∷ rest cursor map watches) → clause ≢ clause_of cursor
+    go : (front : List ℕ) → IsDistinct nat_eq (front ++ clause_of cursor ∷ rest cursor map watches) →
+        clause ≢ clause_of cursor
     go [] once k =
-        let inside : is_clause_in (clause_of cursor) (rest cursor map watches) ≡ true = subst (λ c. is_clause_in c (rest cursor map watches) ≡ true) k h in
-        let outside : is_clause_in (clause_of cursor) (rest cursor map watches) ≡ false = distinct_head (clause_of cursor) (rest cursor map watches) once in
+        let inside : is_clause_in (clause_of cursor) (rest cursor map watches) ≡ true =
+        subst (λ c. is_clause_in c (rest cursor map watches) ≡ true) k h in
+        let outside : is_clause_in (clause_of cursor) (rest cursor map watches) ≡ false =
+        distinct_head (clause_of cursor) (rest cursor map watches) once in
         let z : true ≡ false = sym inside ∙ outside in cc
     go (x ∷ front) once k = go front (distinct_tail x (front ++ clause_of cursor ∷ rest cursor map watches) once) k
 
@@ -98,7 +109,8 @@ cursors_outlive_room cursor old new watches same stands = record {
   member = subst (λ xs. is_clause_in (clause_of cursor) xs ≡ true) (sym list) stands.member;
   within = stands.within;
   watch = stands.watch;
-  placed = subst (λ xs. IsPrevious watches (literal_of cursor) cursor.previous (before (clause_of cursor) xs)) (sym list) stands.placed;
+  placed = subst (λ xs. IsPrevious watches (literal_of cursor) cursor.previous (before (clause_of cursor) xs))
+      (sym list) stands.placed;
 }
   where
     list : watchers new watches (literal_of cursor) ≡ watchers old watches (literal_of cursor)

@@ -1,5 +1,6 @@
 -- Chains of clauses, each of which tells the next one.
-use Rattle.std.proofs.Common.{◌≡◌, ℕ, zero, suc, ◌≤◌, Bool, true, false, ◌||◌, nat_eq, List, [], ◌∷◌, ◌++◌, Option, length, sym, ap, refl, subst, arith}
+use Rattle.std.proofs.Common.{◌≡◌, ℕ, zero, suc, ◌≤◌, Bool, true, false, ◌||◌, nat_eq, List, [], ◌∷◌, ◌++◌, Option}
+use Rattle.std.proofs.Common.{length, sym, ap, refl, subst, arith}
 use Rattle.watch_map.specs.Watching.{is_clause_in}
 use Rattle.watch_map.specs.WatchLists.{chain, IsChain}
 use Rattle.watch_map.proofs.WatchingLaws.{eqb_self}
@@ -22,18 +23,23 @@ pub in_middle : (c : ℕ) (front back : List ℕ) → is_clause_in c (front ++ c
 in_middle c front back = in_back c front (c ∷ back) (in_head c back)
 
 -- a chain that is no longer than the bound is found whole
-pub chain_is : (next : ℕ → Option ℕ) (first : Option ℕ) (cs : List ℕ) (n : ℕ) → IsChain next first cs → length cs ≤ n → chain n next first ≡ cs
+pub chain_is : (next : ℕ → Option ℕ) (first : Option ℕ) (cs : List ℕ) (n : ℕ) → IsChain next first cs →
+    length cs ≤ n → chain n next first ≡ cs
 chain_is next first [] zero h le = refl
 chain_is next first [] (suc n) h le = rw h refl
 chain_is next first (c ∷ cs) zero h le = absurd (omega arith)
 chain_is next first (c ∷ cs) (suc n) h le = rw h.0 (ap (λ xs. c ∷ xs) (chain_is next (next c) cs n h.1 (omega arith)))
 
 -- links that are the same at its clauses
-pub chain_same : (next next' : ℕ → Option ℕ) (first : Option ℕ) (cs : List ℕ) → ((c : ℕ) → is_clause_in c cs ≡ true → next' c ≡ next c) →
+pub chain_same : (next next' : ℕ → Option ℕ) (first : Option ℕ) (cs : List ℕ) →
+    ((c : ℕ) → is_clause_in c cs ≡ true → next' c ≡ next c) →
     IsChain next first cs → IsChain next' first cs
 chain_same next next' first [] same h = h
-chain_same next next' first (c ∷ cs) same h =
-    (h.0, chain_same next next' (next' c) cs (λ d m. same d (in_rest d c cs m)) (subst (λ o. IsChain next o cs) (sym (same c (in_head c cs))) h.1))
+chain_same next next' first (c ∷ cs) same h = (
+  h.0,
+  chain_same next next' (next' c) cs (λ d m. same d (in_rest d c cs m))
+      (subst (λ o. IsChain next o cs) (sym (same c (in_head c cs))) h.1),
+)
 
 -- what is behind a clause
 pub chain_behind : (next : ℕ → Option ℕ) (first : Option ℕ) (front : List ℕ) (c : ℕ) (back : List ℕ) →
@@ -42,10 +48,13 @@ chain_behind next first [] c back h = h.1
 chain_behind next first (x ∷ front) c back h = chain_behind next (next x) front c back h.1
 
 -- a clause is passed over by the one in front of it
-pub chain_less : (next next' : ℕ → Option ℕ) (first : Option ℕ) (front : List ℕ) (p c : ℕ) (back : List ℕ) → next' p ≡ next c →
-    ((d : ℕ) → is_clause_in d front ≡ true → next' d ≡ next d) → ((d : ℕ) → is_clause_in d back ≡ true → next' d ≡ next d) →
+pub chain_less : (next next' : ℕ → Option ℕ) (first : Option ℕ) (front : List ℕ) (p c : ℕ) (back : List ℕ) →
+    next' p ≡ next c →
+    ((d : ℕ) → is_clause_in d front ≡ true → next' d ≡ next d) →
+    ((d : ℕ) → is_clause_in d back ≡ true → next' d ≡ next d) →
     IsChain next first (front ++ p ∷ c ∷ back) → IsChain next' first (front ++ p ∷ back)
-chain_less next next' first [] p c back skip f b h = (h.0, subst (λ o. IsChain next' o back) (sym skip) (chain_same next next' (next c) back b h.1.1))
+chain_less next next' first [] p c back skip f b h =
+    (h.0, subst (λ o. IsChain next' o back) (sym skip) (chain_same next next' (next c) back b h.1.1))
 chain_less next next' first (x ∷ front) p c back skip f b h = (
   h.0,
   chain_less next next' (next' x) front p c back skip (λ d m. f d (in_rest d x front m)) b

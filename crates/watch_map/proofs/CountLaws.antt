@@ -25,13 +25,15 @@ unfolding sum_below
 sum_same zero f g h = refl
 sum_same (suc n) f g h = let ih = sum_same n f g h in let here = h n in omega (arith, ih, here)
 
-lists_sum : (n : ℕ) (lists : Lit → List ℕ) → count_lists n lists ≡ sum_below n (λ k. cond (nat_eq (length (lists (literal_at k))) 0) 0 1)
+lists_sum : (n : ℕ) (lists : Lit → List ℕ) → count_lists n lists
+    ≡ sum_below n (λ k. cond (nat_eq (length (lists (literal_at k))) 0) 0 1)
 unfolding sum_below
 lists_sum zero lists = refl
 lists_sum (suc n) lists = ap (λ m. cond (nat_eq (length (lists (literal_at n))) 0) 0 1 + m) (lists_sum n lists)
 
 module _ {V : Type 0} (p : Option V → Bool) where
-  slots_sum : (slots : List (Option V)) → count_by p slots ≡ sum_below (length slots) (λ k. cond (p (value_at slots k)) 1 0)
+  slots_sum : (slots : List (Option V)) → count_by p slots
+      ≡ sum_below (length slots) (λ k. cond (p (value_at slots k)) 1 0)
   unfolding sum_below
   slots_sum [] = refl
   slots_sum (x ∷ slots) =
@@ -44,12 +46,15 @@ module _ {V : Type 0} (p : Option V → Bool) where
   pub slots_counted : (slots : List (Option V)) (lists : Lit → List ℕ) →
       ((l : Lit) → nat_eq (length (lists l)) 0 ≡ cond (p (value_at slots (literal_index l))) false true) →
       count_by p slots ≡ count_lists (length slots) lists
-  slots_counted slots lists same = slots_sum slots ∙ (sum_same (length slots) _ _ each ∙ sym (lists_sum (length slots) lists))
+  slots_counted slots lists same = slots_sum slots ∙ (sum_same (length slots) _ _ each
+      ∙ sym (lists_sum (length slots) lists))
     where
-      each : (k : ℕ) → ◌≡◌ {A = ℕ} (cond (p (value_at slots k)) 1 0) (cond (nat_eq (length (lists (literal_at k))) 0) 0 1)
+      each : (k : ℕ) → ◌≡◌ {A = ℕ} (cond (p (value_at slots k)) 1 0)
+          (cond (nat_eq (length (lists (literal_at k))) 0) 0 1)
       each k =
           let e : nat_eq (length (lists (literal_at k))) 0 ≡ cond (p (value_at slots k)) false true =
-          subst (λ i. nat_eq (length (lists (literal_at k))) 0 ≡ cond (p (value_at slots i)) false true) (literal_index-literal_at k) (same (literal_at k)) in
+          subst (λ i. nat_eq (length (lists (literal_at k))) 0 ≡ cond (p (value_at slots i)) false true)
+          (literal_index-literal_at k) (same (literal_at k)) in
           go (p (value_at slots k)) (nat_eq (length (lists (literal_at k))) 0) e
         where
           go : (b s : Bool) → s ≡ cond b false true → ◌≡◌ {A = ℕ} (cond b 1 0) (cond s 0 1)
@@ -62,10 +67,12 @@ module _ {V : Type 0} (p : Option V → Bool) where
   past_slots (x ∷ slots) (suc i) h = past_slots slots i (omega arith)
 
 -- a literal has clauses exactly if it has a first one
-pub firsts_counted : (map : WatchLists) (watches : Watches) → AreWatched map watches → IsListCount (watchers map watches) (value_count map)
+pub firsts_counted : (map : WatchLists) (watches : Watches) → AreWatched map watches →
+    IsListCount (watchers map watches) (value_count map)
 firsts_counted map watches watched = record {
   bound = length map;
-  past = λ l h. none (link watches l) (watchers map watches l) (value_at map (literal_index l)) (watched.linked l) (past_slots is_some map (literal_index l) h);
+  past = λ l h. none (link watches l) (watchers map watches l) (value_at map (literal_index l)) (watched.linked l)
+      (past_slots is_some map (literal_index l) h);
   counted = slots_counted is_some map (watchers map watches) (λ l.
       has (link watches l) (watchers map watches l) (value_at map (literal_index l)) (watched.linked l));
 }
@@ -74,6 +81,7 @@ firsts_counted map watches watched = record {
     none next [] first h e = refl
     none next (x ∷ xs) first h e = absurd (let z : Some x ≡ None = sym h.0 ∙ e in cc)
 
-    has : (next : ℕ → Option ℕ) (xs : List ℕ) (first : Option ℕ) → IsChain next first xs → nat_eq (length xs) 0 ≡ cond (is_some first) false true
+    has : (next : ℕ → Option ℕ) (xs : List ℕ) (first : Option ℕ) → IsChain next first xs →
+        nat_eq (length xs) 0 ≡ cond (is_some first) false true
     has next [] first h = rw h refl
     has next (x ∷ xs) first h = rw h.0 (grind (arith, nat_tests))

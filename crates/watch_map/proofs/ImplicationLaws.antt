@@ -16,7 +16,8 @@ use Rattle.watch_map.specs.WatchInvariant.{Extends, is_true_literal, is_true, va
 use Rattle.watch_map.proofs.WatchingLaws.{same_is}
 use Rattle.watch_map.proofs.LiteralLists.{by_test, all_at, all_from, any_at, passes_of}
 use Rattle.watch_map.proofs.OpenClauses.{count_open, count_less}
-use Rattle.watch_map.proofs.ValueLaws.{true_is_not_false, true_is_decided, open_variable, val_kept, val_added, decided_is_true, decided_variable, true_of}
+use Rattle.watch_map.proofs.ValueLaws.{true_is_not_false, true_is_decided, open_variable, val_kept, val_added}
+use Rattle.watch_map.proofs.ValueLaws.{decided_is_true, decided_variable, true_of}
 
 -- ---- a literal that a clause forces
 

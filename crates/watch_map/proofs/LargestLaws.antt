@@ -55,7 +55,8 @@ pub rooms_below : (map : WatchLists) (n largest : ℕ) (bit : ℕ × ℕ × Bool
 rooms_below map n largest bit first second room l =
     in_pair (Neg bit.0) (helper_literal bit) l (λ z. HasRoom map z n)
     (room_below map (Neg bit.0) n largest first room)
-    (room_below map (helper_literal bit) n largest (subst (λ x. x ≤ largest) (sym (variable_of_sign bit.1 bit.2)) second) room)
+    (room_below map (helper_literal bit) n largest (subst (λ x. x ≤ largest)
+    (sym (variable_of_sign bit.1 bit.2)) second) room)
 
 pub rooms_for_all : (result : Result (Unit {0}) StoreError) (map : WatchLists) (l : Lit) (n largest : ℕ)
     (bits : List (ℕ × ℕ × Bool)) → l ≡ Neg largest → largest ≡ largest_variable bits → OnOk result (HasRoom map l n)

@@ -22,14 +22,17 @@ slot_within map l n room = room
 
 or_false_at : (a b : Bool) → (a || (b || false)) ≡ true → b ≡ false → a ≡ true
 or_false_at true b h e = refl
-or_false_at false b h e = absurd (let z : b || false ≡ true = h in (let y : (false || false) ≡ true = subst (λ x. (x || false) ≡ true) e z in cc))
+or_false_at false b h e = absurd (let z : b || false ≡ true = h in
+    (let y : (false || false) ≡ true = subst (λ x. (x || false) ≡ true) e z in cc))
 
-pub link_at : (ls : List Lit) (links : List (Option ℕ)) (index : ℕ) (l : Lit) → AreTwoOrNone ls → index < length ls → slice_index_or ls index l ≡ l →
+pub link_at : (ls : List Lit) (links : List (Option ℕ)) (index : ℕ) (l : Lit) → AreTwoOrNone ls → index < length ls →
+    slice_index_or ls index l ≡ l →
     slice_index_or links index None ≡ link_for ls links l
 link_at [] links index l two h e = absurd (omega arith)
 link_at (a ∷ []) links index l two h e = absurd two
 link_at (a ∷ b ∷ c ∷ ls) links index l two h e = absurd two
-link_at (a ∷ b ∷ []) links zero l two h e = let s : same_literal l a ≡ true = subst (λ x. same_literal l x ≡ true) (sym e) (same_self l) in rw s refl
+link_at (a ∷ b ∷ []) links zero l two h e = let s : same_literal l a ≡ true =
+    subst (λ x. same_literal l x ≡ true) (sym e) (same_self l) in rw s refl
 link_at (a ∷ b ∷ []) links (suc zero) l two h e =
     let s : same_literal l a ≡ false = subst (λ x. same_literal x a ≡ false) e (same_swap b a ∙ two) in rw s refl
 link_at (a ∷ b ∷ []) links (suc (suc index)) l two h e = absurd (omega arith)
@@ -53,7 +56,8 @@ link_kept (a ∷ b ∷ []) links (suc (suc index)) from l n two h e i d = absurd
 
 pub watch_kept : (ls : List Lit) (links : List (Option ℕ)) (index : ℕ) (from to l : Lit) (n : Option ℕ) →
     AreTwoOrNone ls → index < length ls → slice_index_or ls index from ≡ from →
-    is_literal_in l ls ≡ true → same_literal l from ≡ false → same_literal l to ≡ false → link_for (set ls index to) (set links index n) l ≡ link_for ls links l
+    is_literal_in l ls ≡ true → same_literal l from ≡ false → same_literal l to ≡ false →
+    link_for (set ls index to) (set links index n) l ≡ link_for ls links l
 watch_kept [] links index from to l n two h e i d t = absurd (omega arith)
 watch_kept (a ∷ []) links index from to l n two h e i d t = absurd two
 watch_kept (a ∷ b ∷ c ∷ ls) links index from to l n two h e i d t = absurd two
@@ -85,7 +89,8 @@ module _ (index : ℕ) (from : Lit) where
 
   pub record_next_kept : (r : Option WatchedLiterals) (n : Option ℕ) (l : Lit) → AreTwoOrNone (literals_in r) →
       index < length (literals_in r) → slice_index_or (literals_in r) index from ≡ from →
-      is_literal_in l (literals_in r) ≡ true → same_literal l from ≡ false → next_in (with_next index n r) l ≡ next_in r l
+      is_literal_in l (literals_in r) ≡ true → same_literal l from ≡ false →
+      next_in (with_next index n r) l ≡ next_in r l
   record_next_kept None n l two h e i d = refl
   record_next_kept (Some w) n l two h e i d = link_kept w.watched_literals w.next_watches index from l n two h e i d
 
@@ -95,28 +100,35 @@ module _ (index : ℕ) (from : Lit) where
   record_next_set None n two h e k = absurd (omega arith)
   record_next_set (Some w) n two h e k =
       let small = two_length w.watched_literals index two h in
-      sym (link_at w.watched_literals (set w.next_watches index n) index from two h e) ∙ get_or-set_same w.next_watches index n None (omega arith)
+      sym (link_at w.watched_literals (set w.next_watches index n) index from two h e)
+      ∙ get_or-set_same w.next_watches index n None (omega arith)
 
   pub record_watch_kept : (r : Option WatchedLiterals) (n : Option ℕ) (to l : Lit) → AreTwoOrNone (literals_in r) →
       index < length (literals_in r) → slice_index_or (literals_in r) index from ≡ from →
-      is_literal_in l (literals_in r) ≡ true → same_literal l from ≡ false → same_literal l to ≡ false → next_in (with_watch index to n r) l ≡ next_in r l
+      is_literal_in l (literals_in r) ≡ true → same_literal l from ≡ false → same_literal l to ≡ false →
+      next_in (with_watch index to n r) l ≡ next_in r l
   record_watch_kept None n to l two h e i d t = refl
-  record_watch_kept (Some w) n to l two h e i d t = watch_kept w.watched_literals w.next_watches index from to l n two h e i d t
+  record_watch_kept (Some w) n to l two h e i d t =
+      watch_kept w.watched_literals w.next_watches index from to l n two h e i d t
 
-pub record_watch_set : (index : ℕ) (to : Lit) (r : Option WatchedLiterals) (n : Option ℕ) → AreTwoOrNone (literals_in r) → index < length (literals_in r) →
+pub record_watch_set : (index : ℕ) (to : Lit) (r : Option WatchedLiterals) (n : Option ℕ) →
+    AreTwoOrNone (literals_in r) → index < length (literals_in r) →
     AreTwoOrNone (literals_in (with_watch index to n r)) → HasTwoLinks r → next_in (with_watch index to n r) to ≡ n
 record_watch_set index to None n two h two' k = absurd (omega arith)
 record_watch_set index to (Some w) n two h two' k =
     let small = two_length w.watched_literals index two h in
     let within : index < length (set w.watched_literals index to) = rw (length-set w.watched_literals index to) h in
-    sym (link_at (set w.watched_literals index to) (set w.next_watches index n) index to two' within (get_or-set_same w.watched_literals index to to h))
+    sym (link_at (set w.watched_literals index to) (set w.next_watches index n) index to two' within
+    (get_or-set_same w.watched_literals index to to h))
     ∙ get_or-set_same w.next_watches index n None (omega arith)
 
-pub next_literals : (index : ℕ) (n : Option ℕ) (r : Option WatchedLiterals) → literals_in (with_next index n r) ≡ literals_in r
+pub next_literals : (index : ℕ) (n : Option ℕ) (r : Option WatchedLiterals) →
+    literals_in (with_next index n r) ≡ literals_in r
 next_literals index n None = refl
 next_literals index n (Some w) = refl
 
-pub watch_literals : (index : ℕ) (to : Lit) (n : Option ℕ) (r : Option WatchedLiterals) → literals_in (with_watch index to n r) ≡ set (literals_in r) index to
+pub watch_literals : (index : ℕ) (to : Lit) (n : Option ℕ) (r : Option WatchedLiterals) →
+    literals_in (with_watch index to n r) ≡ set (literals_in r) index to
 watch_literals index to n None = nothing index
   where
     nothing : (i : ℕ) → [] ≡ set [] i to
@@ -124,11 +136,13 @@ watch_literals index to n None = nothing index
     nothing (suc i) = refl
 watch_literals index to n (Some w) = refl
 
-pub next_links : (index : ℕ) (n : Option ℕ) (r : Option WatchedLiterals) → HasTwoLinks r → HasTwoLinks (with_next index n r)
+pub next_links : (index : ℕ) (n : Option ℕ) (r : Option WatchedLiterals) → HasTwoLinks r →
+    HasTwoLinks (with_next index n r)
 next_links index n None h = h
 next_links index n (Some w) h = length-set w.next_watches index n ∙ h
 
-pub watch_links : (index : ℕ) (to : Lit) (n : Option ℕ) (r : Option WatchedLiterals) → HasTwoLinks r → HasTwoLinks (with_watch index to n r)
+pub watch_links : (index : ℕ) (to : Lit) (n : Option ℕ) (r : Option WatchedLiterals) → HasTwoLinks r →
+    HasTwoLinks (with_watch index to n r)
 watch_links index to n None h = h
 watch_links index to n (Some w) h = length-set w.next_watches index n ∙ h
 
@@ -138,4 +152,5 @@ module _ (map : WatchLists) (watches : Watches) (lists : Lit → List ℕ) (exac
     (linked : (l : Lit) → IsChain (link watches l) (value_at map (literal_index l)) (lists l)) where
   pub lists_made : (l : Lit) → watchers map watches l ≡ lists l
   unfolding watchers
-  lists_made l = chain_is (link watches l) (value_at map (literal_index l)) (lists l) (length watches) (linked l) (few watches lists exact l)
+  lists_made l = chain_is (link watches l) (value_at map (literal_index l)) (lists l) (length watches) (linked l)
+      (few watches lists exact l)

@@ -25,27 +25,32 @@ at_end : (ws : List (List Lit)) (w : List Lit) → watched_at (ws ++ w ∷ []) (
 at_end [] w = refl
 at_end (v ∷ ws) w = at_end ws w
 
-elsewhere : (ws : List (List Lit)) (w : List Lit) (c : ℕ) → c ≢ length ws → watched_at (ws ++ w ∷ []) c ≡ watched_at ws c
+elsewhere : (ws : List (List Lit)) (w : List Lit) (c : ℕ) → c ≢ length ws →
+    watched_at (ws ++ w ∷ []) c ≡ watched_at ws c
 elsewhere [] w zero ne = absurd (ne refl)
 elsewhere [] w (suc c) ne = refl
 elsewhere (v ∷ ws) w zero ne = refl
 elsewhere (v ∷ ws) w (suc c) ne = elsewhere ws w c (λ e. ne (ap suc e))
 
-pub pushed_watches : (ws : List (List Lit)) (w : List Lit) → IsUpdate (watched_at ws) (length ws) w (watched_at (ws ++ w ∷ []))
+pub pushed_watches : (ws : List (List Lit)) (w : List Lit) →
+    IsUpdate (watched_at ws) (length ws) w (watched_at (ws ++ w ∷ []))
 pushed_watches ws w = (at_end ws w, elsewhere ws w)
 
-pub set_watches : (ws : List (List Lit)) (c : ℕ) (w : List Lit) → c < length ws → IsUpdate (watched_at ws) c w (watched_at (set ws c w))
+pub set_watches : (ws : List (List Lit)) (c : ℕ) (w : List Lit) → c < length ws →
+    IsUpdate (watched_at ws) c w (watched_at (set ws c w))
 set_watches ws c w h = (get_or-set_same ws c w [] h, λ d ne. get_or-set_other ws c d w [] ne)
 
 -- who watches something is there
-pub watching_within : (ws : List (List Lit)) (c : ℕ) (l : Lit) → is_literal_in l (watched_at ws c) ≡ true → c < length ws
+pub watching_within : (ws : List (List Lit)) (c : ℕ) (l : Lit) → is_literal_in l (watched_at ws c) ≡ true →
+    c < length ws
 watching_within [] c l h = (let no : false ≡ true = h in cc)
 watching_within (w ∷ ws) zero l h = omega arith
 watching_within (w ∷ ws) (suc c) l h = omega (arith, watching_within ws c l h)
 
 -- ---- a clause more
 
-pub exact_pushed : (ws : List (List Lit)) (lists : Lit → List ℕ) (w : List Lit) → AreTwoOrNone w → IsExact (watched_at ws) lists
+pub exact_pushed : (ws : List (List Lit)) (lists : Lit → List ℕ) (w : List Lit) → AreTwoOrNone w →
+    IsExact (watched_at ws) lists
     → IsExact (watched_at (ws ++ w ∷ [])) (started (length ws) w lists)
 exact_pushed ws lists [] two ex =
     exact_same (watched_at ws) (watched_at (ws ++ [] ∷ [])) lists (started (length ws) [] lists) same (λ l. refl) ex
@@ -65,7 +70,8 @@ exact_pushed ws lists (a ∷ b ∷ c ∷ w) two ex = absurd two
 -- ---- a watch moved
 
 -- of two different literals the one at the index is exchanged
-pub rewatched_is : (ls : List Lit) (index : ℕ) (from to : Lit) → AreTwoOrNone ls → index < length ls → slice_index_or ls index from ≡ from
+pub rewatched_is : (ls : List Lit) (index : ℕ) (from to : Lit) → AreTwoOrNone ls → index < length ls →
+    slice_index_or ls index from ≡ from
     → set ls index to ≡ rewatched from to ls
 rewatched_is [] index from to two h e = absurd (omega (arith, h))
 rewatched_is (a ∷ []) index from to two h e = absurd two
@@ -93,12 +99,14 @@ place_of from (a ∷ ls) h = by_first (same_literal from a) refl h (place_of fro
         let rest = later k in
         record { index = suc rest.index; within = (let w = rest.within in omega (arith, w)); reads = rest.reads }
 
-pub exact_rewatched : (ws : List (List Lit)) (lists : Lit → List ℕ) (c : ℕ) (from to : Lit) → is_literal_in from (watched_at ws c) ≡ true
+pub exact_rewatched : (ws : List (List Lit)) (lists : Lit → List ℕ) (c : ℕ) (from to : Lit) →
+    is_literal_in from (watched_at ws c) ≡ true
     → is_literal_in to (watched_at ws c) ≡ false → IsExact (watched_at ws) lists
     → IsExact (watched_at (set ws c (rewatched from to (watched_at ws c)))) (moved c from to lists)
 exact_rewatched ws lists c from to watches new ex =
     let at = place_of from (watched_at ws c) watches in
-    moved_exact (watched_at ws) (watched_at (set ws c (rewatched from to (watched_at ws c)))) lists c ex at.index from to at.within at.reads new
+    moved_exact (watched_at ws) (watched_at (set ws c (rewatched from to (watched_at ws c)))) lists c ex at.index
+    from to at.within at.reads new
     (subst (λ w. IsUpdate (watched_at ws) c w (watched_at (set ws c (rewatched from to (watched_at ws c)))))
     (sym (rewatched_is (watched_at ws c) at.index from to (ex.two c) at.within at.reads))
     (set_watches ws c (rewatched from to (watched_at ws c)) (watching_within ws c from watches)))

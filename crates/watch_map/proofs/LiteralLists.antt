@@ -62,7 +62,11 @@ passes_of p (x ∷ ls) h =
 pub found_any : {X : Type 0} (p : X → Bool) (xs : List X) → is_some (find p xs) ≡ list_any p xs
 found_any p [] = refl
 found_any p (x ∷ xs) =
-    elim (p x) as (λ b. is_some (cond b (Some x) (find p xs)) ≡ (b || list_any p xs)) [ true ↦ refl | false ↦ found_any p xs ]
+    elim (p x) as (λ b. is_some (cond b (Some x) (find p xs)) ≡ (b || list_any p xs)) [
+      | true ↦ refl
+      | false ↦
+          found_any p xs
+    ]
 
 -- what a test finds is in the list and passes it
 pub found_is : (p : Lit → Bool) (ls : List Lit) (m : Lit) → find p ls ≡ Some m

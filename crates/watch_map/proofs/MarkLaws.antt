@@ -14,7 +14,8 @@ use Rattle.clauses.specs.Clauses.{same_literal}
 use Rattle.watch_map.specs.Watching.{is_literal_in}
 use Rattle.watch_map.specs.Implication.{is_false, is_unit, IsSettled}
 use Rattle.watch_map.specs.Saturation.{HasImplied}
-use Rattle.watch_map.specs.WatchInvariant.{is_true_literal, is_true, has_true_beside, AreWatchesSatisfied, KeepWatchesSatisfied, val_before}
+use Rattle.watch_map.specs.WatchInvariant.{is_true_literal, is_true, has_true_beside, AreWatchesSatisfied}
+use Rattle.watch_map.specs.WatchInvariant.{KeepWatchesSatisfied, val_before}
 use Rattle.watch_map.specs.Visits.{AreUnwatchedTrue}
 use Rattle.watch_map.specs.Marks.{IsMark, AreMarks, beginning, newest_mark, is_from}
 use Rattle.watch_map.specs.Marks.{marks_below, not_false_at, none_false_at, IsRemembered}
@@ -194,7 +195,8 @@ module _ (literals watched : ℕ → List Lit) where
       long_enough (g ∷ gs) (suc m) (suc place) h k =
           (let later = long_enough gs m place (omega (arith, h)) (omega (arith, k)) in omega (arith, later))
 
--- it stays one where literals are only added to clauses, who watches nothing watched nothing before, and each clause that
+-- it stays one where literals are only added to clauses, who watches nothing watched nothing before, and each clause
+-- that
 -- has a false watch under the mark's entries watches what it did
 pub mark_kept : (literals literals' watched watched' : ℕ → List Lit) (es : List Entry) (mark : Mark)
     → ((c : ℕ) (l : Lit) → is_literal_in l (literals c) ≡ true → is_literal_in l (literals' c) ≡ true)
@@ -231,7 +233,8 @@ module _ (literals watched watched' : ℕ → List Lit) (level : ℕ) (a b : Tra
       (let within = is.within in let longer = forced_longer literals level a b f in omega (arith, within, longer))
       (record {
         within = is.within;
-        satisfied = keeps (val_before mark.place a.entries) (val_before mark.place a.entries) before before is.satisfied;
+        satisfied = keeps (val_before mark.place a.entries) (val_before mark.place a.entries) before before
+            is.satisfied;
         unwatched = λ c h none. is.unwatched c h (none_before (watched' c) (watched c) (as_many c) none);
         levels = is.levels;
       })

@@ -1,5 +1,6 @@
 -- Marks of a list to which clauses were added.
-use Rattle.std.proofs.Common.{◌≡◌, ℕ, true, List, [], ◌∷◌, ◌++◌, length, refl, sym, ap, ◌∙◌, subst, append_assoc, append-nil, arith}
+use Rattle.std.proofs.Common.{◌≡◌, ℕ, true, List, [], ◌∷◌, ◌++◌, length, refl, sym, ap, ◌∙◌, subst, append_assoc}
+use Rattle.std.proofs.Common.{append-nil, arith}
 use Rattle.decisions.specs.Literals.{Lit}
 use Rattle.decisions.specs.Trail.{Entry}
 use Rattle.watch_map.specs.Watching.{is_literal_in}
@@ -37,4 +38,5 @@ none_of_literals es (l ∷ ls) = none_of_literals es ls
 
 pub none_of_clauses : (es : List Entry) (ws : List (List Lit)) → none_watched_false es [] ws ≡ []
 none_of_clauses es [] = refl
-none_of_clauses es (w ∷ ws) = ap (λ marks. none_watched_false es marks ws) (none_of_literals es w) ∙ none_of_clauses es ws
+none_of_clauses es (w ∷ ws) = ap (λ marks. none_watched_false es marks ws) (none_of_literals es w)
+    ∙ none_of_clauses es ws

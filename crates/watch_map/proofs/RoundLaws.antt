@@ -14,7 +14,8 @@ use Rattle.watch_map.specs.Watching.{is_literal_in, AreTwoOrNone}
 use Rattle.watch_map.specs.Implication.{IsSettled, AreSettled}
 use Rattle.watch_map.specs.WatchLists.{WatchLists, Watches, watched_by, AreWatched}
 use Rattle.watch_map.specs.Saturation.{WatchOwn, HasImplied, IsRearranged}
-use Rattle.watch_map.specs.WatchInvariant.{refuted_literal, AreWatchesSatisfied, AreWatchesSatisfiedBut, KeepWatchesSatisfied, val_before}
+use Rattle.watch_map.specs.WatchInvariant.{refuted_literal, AreWatchesSatisfied, AreWatchesSatisfiedBut}
+use Rattle.watch_map.specs.WatchInvariant.{KeepWatchesSatisfied, val_before}
 use Rattle.watch_map.specs.Visits.{AreUnwatchedSettled, AreAllSettled}
 use Rattle.watch_map.proofs.WatchingLaws.{same_self}
 use Rattle.watch_map.proofs.OpenClauses.{count_open}
@@ -84,7 +85,8 @@ module _ (literals : ℕ → List Lit) (level : ℕ) where
   pub place_reached : (a b : Trail) (place : ℕ) (l : Lit) (watched : ℕ → List Lit) → place < length a.entries
       → ((e : Entry) → slice_get a.entries place ≡ Some e → l ≡ refuted_literal e.decision)
       → HasImplied literals level a b
-      → AreWatchesSatisfied (val_before place a.entries) (val a.entries) watched → AreWatchesSatisfiedBut [] l (val b.entries) watched
+      → AreWatchesSatisfied (val_before place a.entries) (val a.entries) watched →
+      AreWatchesSatisfiedBut [] l (val b.entries) watched
       → AreWatchesSatisfied (val_before (place + 1) b.entries) (val b.entries) watched
   place_reached a b place l watched within is_l f met_by_a one =
       let satisfied = met_kept (val_before place a.entries) (val a.entries) (val b.entries) watched
@@ -100,7 +102,8 @@ module _ (literals : ℕ → List Lit) (level : ℕ) where
 
   -- what is kept by each of two steps is kept by both
   pub keeps_then : (a b : Trail) (w w' w'' : ℕ → List Lit) → HasImplied literals level a b
-      → KeepWatchesSatisfied (val a.entries) w w' → KeepWatchesSatisfied (val b.entries) w' w'' → KeepWatchesSatisfied (val a.entries) w w''
+      → KeepWatchesSatisfied (val a.entries) w w' → KeepWatchesSatisfied (val b.entries) w' w'' →
+      KeepWatchesSatisfied (val a.entries) w w''
   keeps_then a b w w' w'' f first second before seen ex ex_seen satisfied =
       let grown = forced_extends literals level a b f in
       second before seen (extends_on before (val a.entries) (val b.entries) ex grown)

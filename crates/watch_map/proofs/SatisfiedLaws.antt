@@ -2,7 +2,8 @@
 use Rattle.std.proofs.Common.{◌≡◌, ℕ, ◌+◌, ◌<◌, true, false, not, ◌&&◌, inl, inr, List, [], ◌∷◌, ◌++◌, length}
 use Rattle.std.proofs.Common.{take, slice_index_or, set, Some, refl, sym, ap, subst, ◌∙◌, nat_eq, eqb-true}
 use Rattle.std.specs.Prelude.{slice_get}
-use Rattle.std.proofs.lemmas.Bool.{true≢false, eqb-false, and_parts, and_from, not-true, not_from_false, false_from_ne_true}
+use Rattle.std.proofs.lemmas.Bool.{true≢false, eqb-false, and_parts, and_from, not-true, not_from_false}
+use Rattle.std.proofs.lemmas.Bool.{false_from_ne_true}
 use Rattle.std.proofs.lemmas.List.{take_more}
 use Rattle.std.proofs.lemmas.Option.{slice_get_within, get_or_from_slice_get}
 use Rattle.typed_ids.specs.TotalMaps.{IsUpdate}
@@ -12,7 +13,8 @@ use Rattle.clauses.specs.Clauses.{same_literal}
 use Rattle.watch_map.specs.Watching.{is_literal_in, AreTwoOrNone}
 use Rattle.watch_map.specs.Implication.{is_false, is_unit}
 use Rattle.watch_map.specs.Saturation.{WatchOwn}
-use Rattle.watch_map.specs.WatchInvariant.{Extends, refuted_literal, is_true_literal, has_true_beside, AreWatchesSatisfied, AreWatchesSatisfiedBut, val_before}
+use Rattle.watch_map.specs.WatchInvariant.{Extends, refuted_literal, is_true_literal, has_true_beside}
+use Rattle.watch_map.specs.WatchInvariant.{AreWatchesSatisfied, AreWatchesSatisfiedBut, val_before}
 use Rattle.watch_map.proofs.WatchingLaws.{same_swap}
 use Rattle.watch_map.proofs.LiteralLists.{by_test, all_at, any_at, passes_of, another, only_two, moved_two, not_ahead}
 use Rattle.watch_map.proofs.ValueLaws.{true_kept, false_kept, true_is_not_false, false_of_more}
@@ -69,7 +71,8 @@ met_but_kept ahead l a b watched ex satisfied c there gone = beside_kept a b ex 
 
 -- it goes on past a clause that is met
 pub met_but_next : (c : ℕ) (rest : List ℕ) (l : Lit) (now : Values) (watched : ℕ → List Lit)
-    → has_true_beside now (watched c) l ≡ true → AreWatchesSatisfiedBut (c ∷ rest) l now watched → AreWatchesSatisfiedBut rest l now watched
+    → has_true_beside now (watched c) l ≡ true → AreWatchesSatisfiedBut (c ∷ rest) l now watched →
+    AreWatchesSatisfiedBut rest l now watched
 met_but_next c rest l now watched here satisfied d there gone =
     by_test (has_true_beside now (watched d) l ≡ true) (nat_eq d c)
     (λ e. subst (λ x. has_true_beside now (watched x) l ≡ true) (sym (eqb-true d c e)) here)
@@ -134,19 +137,22 @@ module _ (watched watched' : ℕ → List Lit) (c index : ℕ) (from to : Lit) (
             ]
 
     -- and the walk of `from` goes on behind the clause
-    pub moved_met_but : (rest : List ℕ) → AreWatchesSatisfiedBut (c ∷ rest) from now watched → AreWatchesSatisfiedBut rest from now watched'
+    pub moved_met_but : (rest : List ℕ) → AreWatchesSatisfiedBut (c ∷ rest) from now watched →
+        AreWatchesSatisfiedBut rest from now watched'
     moved_met_but rest satisfied d there gone =
         by_test (has_true_beside now (watched' d) from ≡ true) (nat_eq d c)
         (λ e. absurd (true≢false (sym (in_moved d from e there)
         ∙ (moved_two (watched c) index from to (two c) within read new).gone)))
         (λ e. let same = update.1 d (eqb-false d c e) in
         subst (λ ws. has_true_beside now ws from ≡ true) (sym same)
-        (satisfied d (subst (λ ws. is_literal_in from ws ≡ true) same there) (not_ahead d c rest (eqb-false d c e) gone)))
+        (satisfied d (subst (λ ws. is_literal_in from ws ≡ true) same there)
+        (not_ahead d c rest (eqb-false d c e) gone)))
 
 -- ---- places
 
 -- before the first place nothing is false
-pub met_at_start : (es : List Entry) (now : Values) (watched : ℕ → List Lit) → AreWatchesSatisfied (val_before 0 es) now watched
+pub met_at_start : (es : List Entry) (now : Values) (watched : ℕ → List Lit) →
+    AreWatchesSatisfied (val_before 0 es) now watched
 met_at_start es now watched c w there f = absurd (nothing w f)
   where
     nothing : (l : Lit) → is_false_literal (val_before 0 es) l ≡ true → ⊥
@@ -156,7 +162,8 @@ met_at_start es now watched c w there f = absurd (nothing w f)
 -- once the literal that an entry refutes is met, so is all that is false up to the entry
 pub met_one_more : (es : List Entry) (place : ℕ) (e : Entry) (now : Values) (watched : ℕ → List Lit)
     → slice_get es place ≡ Some e → AreWatchesSatisfied (val_before place es) now watched
-    → AreWatchesSatisfiedBut [] (refuted_literal e.decision) now watched → AreWatchesSatisfied (val_before (place + 1) es) now watched
+    → AreWatchesSatisfiedBut [] (refuted_literal e.decision) now watched →
+    AreWatchesSatisfied (val_before (place + 1) es) now watched
 met_one_more es place e now watched at satisfied one c w there f =
     let more : take (place + 1) es ≡ take place es ++ e ∷ [] = take_more es place e (slice_get_within es place e at)
     ∙ ap (λ x. take place es ++ x ∷ []) (get_or_from_slice_get es place e e at) in

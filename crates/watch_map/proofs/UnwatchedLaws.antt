@@ -1,5 +1,6 @@
 -- The clauses that watch nothing: what keeps the list of their ids, and what is true of all that are in it.
-use Rattle.std.proofs.Common.{◌≡◌, ℕ, ◌+◌, ◌<◌, ◌≤◌, true, false, List, [], ◌∷◌, ◌++◌, length, get_or, take, Option, None}
+use Rattle.std.proofs.Common.{◌≡◌, ℕ, ◌+◌, ◌<◌, ◌≤◌, true, false, List, [], ◌∷◌, ◌++◌, length, get_or, take, Option}
+use Rattle.std.proofs.Common.{None}
 use Rattle.std.proofs.Common.{refl, sym, ap, subst, ◌∙◌, arith, nat_eq, eqb-true, length-append, Result, Ok, Err}
 use Rattle.std.specs.Prelude.{All, nat_lt, if◌then◌else◌, OnOk, OnErr}
 use Rattle.std.specs.List.{AllPairs, Contains}
@@ -154,7 +155,8 @@ module _ (bound : ℕ) (ids : List ℕ) where
     where
       no_literals : (ls : List Lit) → nat_lt 0 (length ls) ≡ false → ls ≡ []
       no_literals [] e = refl
-      no_literals (l ∷ ls) e = absurd (let none : length (l ∷ ls) ≤ 0 = grind (arith, nat_tests, e) in omega (arith, none))
+      no_literals (l ∷ ls) e = absurd (let none : length (l ∷ ls) ≤ 0 = grind (arith, nat_tests, e) in
+          omega (arith, none))
 
   -- the bound has reached all clauses
   pub all_of_them : (ws : Watches) (clauses : ℕ) → AreUnwatchedBelow ws bound ids → bound ≡ length ws →
@@ -199,7 +201,8 @@ module _ (literals watched : ℕ → List Lit) (clauses : ℕ) (ids : List ℕ) 
   pub true_up_to : (bound : ℕ) → bound ≤ clauses
       → All (λ c. c < bound → is_true now (literals c) ≡ true) ids → AreUnwatchedTrue literals watched bound now
   true_up_to bound within below c h none =
-      All-contains (λ x. x < bound → is_true now (literals x) ≡ true) ids c below (are.all c (omega (arith, within, h)) none) h
+      All-contains (λ x. x < bound → is_true now (literals x) ≡ true) ids c below
+      (are.all c (omega (arith, within, h)) none) h
 
   pub settled_if_listed : AreAllSettled literals ids now → AreUnwatchedSettled literals watched clauses now
   settled_if_listed all c h none = All-contains (λ x. IsSettled now (literals x)) ids c all (are.all c h none)

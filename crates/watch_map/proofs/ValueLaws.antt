@@ -6,7 +6,8 @@ use Rattle.std.specs.Bool.{beq}
 use Rattle.std.specs.Option.{option_eq}
 use Rattle.std.proofs.lemmas.Bool.{true≢false}
 use Rattle.std.proofs.lemmas.List.{take-append-drop}
-use Rattle.decisions.specs.Literals.{Lit, Pos, Neg, Values, variable_of, satisfying_value, truth, known_true, known_false, undecided, is_false_literal}
+use Rattle.decisions.specs.Literals.{Lit, Pos, Neg, Values, variable_of, satisfying_value, truth, known_true}
+use Rattle.decisions.specs.Literals.{known_false, undecided, is_false_literal}
 use Rattle.decisions.specs.declared.decision.Decision.{Decision}
 use Rattle.decisions.specs.Trail.{Entry, val, IsOnce}
 use Rattle.decisions.proofs.TrailLemmas.{val-push}

@@ -95,7 +95,11 @@ none_left now (x ∷ y ∷ []) l other two watching =
     let fails : (m : Lit) → is_literal_in m (x ∷ y ∷ []) ≡ true → may_watch now l other m ≡ false =
     λ m there. by_test (may_watch now l other m ≡ false) (same_literal m other)
     (λ s. rw s refl)
-    (λ s. rw (s, subst (λ a. same_literal a l ≡ true) (sym (of_two x y l other m hl ho there differs s)) (same_self l)) refl) in
+    (λ s. rw (
+      s,
+      subst (λ a. same_literal a l ≡ true) (sym (of_two x y l other m hl ho there differs s))
+          (same_self l),
+    ) refl) in
     let first = fails x (or_left (same_literal x x) (same_literal x y || false) (same_self x)) in
     let second = fails y
     (or_right (same_literal y x) (same_literal y y || false) (or_left (same_literal y y) false (same_self y))) in
@@ -118,7 +122,8 @@ module _ (now : Values) (ls ws : List Lit) (l other : Lit) (pair : Pair ws l oth
   pub look_moves : (m : Lit) → find (may_watch now l other) ls ≡ Some m → MayWatch now ls ws m
   look_moves m h =
       let found = found_is (may_watch now l other) ls m h in
-      let both = and_parts (not (same_literal m other) && not (same_literal m l)) (not (is_false_literal now m)) found.1 in
+      let both = and_parts (not (same_literal m other) && not (same_literal m l))
+      (not (is_false_literal now m)) found.1 in
       let unlike = and_parts (not (same_literal m other)) (not (same_literal m l)) both.0 in
       record {
         own = found.0;

@@ -1,5 +1,6 @@
 -- A walk over the clauses that watch a literal: what each of its steps leaves.
-use Rattle.std.proofs.Common.{◌≡◌, ℕ, ◌<◌, true, nat_eq, List, [], ◌∷◌, ◌++◌, length, slice_index_or, Option, Some, None, refl, sym, ap, subst, ◌∙◌, arith}
+use Rattle.std.proofs.Common.{◌≡◌, ℕ, ◌<◌, true, nat_eq, List, [], ◌∷◌, ◌++◌, length, slice_index_or, Option, Some}
+use Rattle.std.proofs.Common.{None, refl, sym, ap, subst, ◌∙◌, arith}
 use Rattle.std.specs.Prelude.{option_map}
 use Rattle.std.specs.Option.{ForSome}
 use Rattle.std.specs.List.{IsDistinct}
@@ -8,7 +9,8 @@ use Rattle.decisions.specs.Literals.{Lit, is_false_literal}
 use Rattle.decisions.specs.Trail.{Trail, val}
 use Rattle.watch_map.specs.declared.nodes.WatchNode.{WatchNode}
 use Rattle.watch_map.specs.Watching.{is_literal_in, is_clause_in, behind}
-use Rattle.watch_map.specs.WatchLists.{WatchLists, Watches, Position, watched_by, watchers, AreWatched, clause_of, index_of, literal_of}
+use Rattle.watch_map.specs.WatchLists.{WatchLists, Watches, Position, watched_by, watchers, AreWatched, clause_of}
+use Rattle.watch_map.specs.WatchLists.{index_of, literal_of}
 use Rattle.watch_map.specs.WatchLists.{IsNode, IsPrevious, IsCursorAt, IsChain, link, next_at, record_of}
 use Rattle.watch_map.specs.WatchCalls.{StandsIn, IsReached, Moves, passed, rest}
 use Rattle.watch_map.specs.Saturation.{HasImplied, IsRearranged}
@@ -21,7 +23,8 @@ use Rattle.watch_map.proofs.ChainLaws.{in_middle}
 use Rattle.watch_map.proofs.LiteralLists.{read_in}
 use Rattle.watch_map.proofs.ValueLaws.{extends_on, false_kept}
 use Rattle.watch_map.proofs.ImplicationLaws.{forced_then, forced_extends}
-use Rattle.watch_map.proofs.SatisfiedLaws.{met_but_kept, met_but_next, moved_own, moved_as_many, moved_met, moved_met_but}
+use Rattle.watch_map.proofs.SatisfiedLaws.{met_but_kept, met_but_next, moved_own, moved_as_many, moved_met}
+use Rattle.watch_map.proofs.SatisfiedLaws.{moved_met_but}
 
 -- a cursor stands in the list of the literal, where there is one
 pub record IsAt (l : Lit) (map : WatchLists) (watches : Watches) (at : Position) : Type 0 where
@@ -37,25 +40,30 @@ abbrev pub ahead_of : Option ℕ → List ℕ → List ℕ
 ahead_of None list = list
 ahead_of (Some clause) list = behind clause list
 
-pub ahead_is : (map : WatchLists) (ws : Watches) (l : Lit) (previous : Option WatchNode) (next : Option ℕ) (front ahead : List ℕ)
+pub ahead_is : (map : WatchLists) (ws : Watches) (l : Lit) (previous : Option WatchNode) (next : Option ℕ)
+    (front ahead : List ℕ)
     → AreWatched map ws → IsReached l previous next map ws front ahead
     → ahead_of (clause_in previous) (watchers map ws l) ≡ ahead
 ahead_is map ws l None next front ahead watched reached = reached.list ∙ ap (λ xs. xs ++ ahead) reached.known
 ahead_is map ws l (Some node) next front ahead watched reached =
     let whole : watchers map ws l ≡ reached.known.1.0 ++ node.clause_id ∷ ahead =
-    reached.list ∙ ap (λ xs. xs ++ ahead) reached.known.1.1 ∙ append_assoc reached.known.1.0 (node.clause_id ∷ []) ahead in
+    reached.list ∙ ap (λ xs. xs ++ ahead) reached.known.1.1
+    ∙ append_assoc reached.known.1.0 (node.clause_id ∷ []) ahead in
     ap (behind node.clause_id) whole
     ∙ (parts node.clause_id reached.known.1.0 ahead (subst (IsDistinct nat_eq) whole (watched.exact.once l))).1
 
 -- where a walk is, behind some clauses, of which `previous` is the last
-pub record IsBehind (l : Lit) (previous : Option ℕ) (next : Option ℕ) (map : WatchLists) (watches : Watches) : Type 0 where
+pub record IsBehind (l : Lit) (previous : Option ℕ) (next : Option ℕ) (map : WatchLists)
+    (watches : Watches) : Type 0 where
   pub node : Option WatchNode
   pub clause : clause_in node ≡ previous
   pub front : List ℕ
   pub reached : IsReached l node next map watches front (ahead_of previous (watchers map watches l))
 
-pub behind_from : (map : WatchLists) (ws : Watches) (l : Lit) (node : Option WatchNode) (previous next : Option ℕ) (front ahead : List ℕ)
-    → AreWatched map ws → clause_in node ≡ previous → IsReached l node next map ws front ahead → IsBehind l previous next map ws
+pub behind_from : (map : WatchLists) (ws : Watches) (l : Lit) (node : Option WatchNode) (previous next : Option ℕ)
+    (front ahead : List ℕ)
+    → AreWatched map ws → clause_in node ≡ previous → IsReached l node next map ws front ahead →
+    IsBehind l previous next map ws
 behind_from map ws l node previous next front ahead watched clause reached = record {
   node = node;
   clause = clause;
@@ -71,7 +79,8 @@ pub record IsNodeOf (ws : Watches) (l : Lit) (previous : Option ℕ) (node : Opt
   pub is_node : ForSome node (IsNode ws l)
 
 -- whatever node it is, the walk is behind it
-pub reached_by : (map : WatchLists) (ws : Watches) (l : Lit) (previous next : Option ℕ) (b : IsBehind l previous next map ws)
+pub reached_by : (map : WatchLists) (ws : Watches) (l : Lit) (previous next : Option ℕ)
+    (b : IsBehind l previous next map ws)
     (node : Option WatchNode) → IsNodeOf ws l previous node
     → IsReached l node next map ws b.front (ahead_of previous (watchers map ws l))
 reached_by map ws l previous next b node is = record {
@@ -80,7 +89,8 @@ reached_by map ws l previous next b node is = record {
   linked = b.reached.linked;
 }
   where
-    known : (a b' : Option WatchNode) → clause_in a ≡ clause_in b' → IsPrevious ws l a b.front → ForSome b' (IsNode ws l)
+    known : (a b' : Option WatchNode) → clause_in a ≡ clause_in b' → IsPrevious ws l a b.front →
+        ForSome b' (IsNode ws l)
         → IsPrevious ws l b' b.front
     known None None e k n = k
     known (Some a) (Some b') e k n =
@@ -89,7 +99,8 @@ reached_by map ws l previous next b node is = record {
     known (Some a) None e k n = absurd (let z : Some a.clause_id ≡ None = e in cc)
 
 -- the node that is known is one
-pub known_node : (map : WatchLists) (ws : Watches) (l : Lit) (previous next : Option ℕ) (b : IsBehind l previous next map ws)
+pub known_node : (map : WatchLists) (ws : Watches) (l : Lit) (previous next : Option ℕ)
+    (b : IsBehind l previous next map ws)
     → IsNodeOf ws l previous b.node
 known_node map ws l previous next b = record { clause = b.clause; is_node = go b.node b.reached.known }
   where
@@ -113,11 +124,13 @@ previous_watches map ws l previous next watched is_behind c e =
     in_front (Some node) i k =
         let j : node.clause_id ≡ c = cc in
         subst (λ xs. is_clause_in c xs ≡ true)
-        (sym (append_assoc k.1.0 (c ∷ []) ahead) ∙ ap (λ xs. xs ++ ahead) (ap (λ x. k.1.0 ++ x ∷ []) (sym j) ∙ sym k.1.1))
+        (sym (append_assoc k.1.0 (c ∷ []) ahead) ∙ ap (λ xs. xs ++ ahead) (ap (λ x. k.1.0 ++ x ∷ []) (sym j)
+        ∙ sym k.1.1))
         (in_middle c k.1.0 ahead)
 
 -- the place at which it is then
-pub record IsPlace (l : Lit) (previous : Option ℕ) (map : WatchLists) (watches : Watches) (place : Position) : Type 0 where
+pub record IsPlace (l : Lit) (previous : Option ℕ) (map : WatchLists) (watches : Watches)
+    (place : Position) : Type 0 where
   pub at : IsAt l map watches place
   pub ahead : clause_of place ∷ rest place map watches ≡ ahead_of previous (watchers map watches l)
 
@@ -143,7 +156,8 @@ pub behind_past : (map : WatchLists) (ws : Watches) (place : Position) (next : O
     → IsBehind (literal_of place) (Some (clause_of place)) next map ws
 behind_past map ws place next stands e =
     let front = passed place map ws ++ clause_of place ∷ [] in
-    behind_from map ws (literal_of place) (Some place.current) (Some (clause_of place)) next front (rest place map ws) stands.watched refl
+    behind_from map ws (literal_of place) (Some place.current) (Some (clause_of place)) next front
+    (rest place map ws) stands.watched refl
     (subst (λ o. IsReached (literal_of place) (Some place.current) o map ws front (rest place map ws)) (sym e)
     (reached_past place map ws stands))
 

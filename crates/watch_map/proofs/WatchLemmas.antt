@@ -1,5 +1,6 @@
 -- What a requires clause watches beside its parent, by the first of its other literals and the first that isn't false.
-use Rattle.std.proofs.Common.{◌≡◌, ℕ, Bool, true, false, not, ◌&&◌, List, [], ◌∷◌, Option, Some, None, refl, sym, ap, cond}
+use Rattle.std.proofs.Common.{◌≡◌, ℕ, Bool, true, false, not, ◌&&◌, List, [], ◌∷◌, Option, Some, None, refl, sym, ap}
+use Rattle.std.proofs.Common.{cond}
 use Rattle.std.specs.Prelude.{find, unwrap_or, is_some}
 use Rattle.std.specs.List.{list_all}
 use Rattle.std.specs.Option.{option_or}
@@ -25,7 +26,9 @@ first_or val (l ∷ ls) = some_or (find (λ x. not (is_false_literal val x)) (l 
 
 -- a conflict where there is a literal, none isn't false, and the parent isn't
 pub met_by_parent : (val : Values) (parent : ℕ) (ls : List Lit)
-    → (not (is_some (find (λ l. not (is_false_literal val l)) ls)) && (is_some (find (λ l. true) ls) && not (known_false (val parent))))
+    → (not (is_some (find (λ l. not (is_false_literal val l)) ls))
+    && (is_some (find (λ l. true) ls) && not (known_false (val parent))))
     ≡ conflicts_with_parent val parent ls
 met_by_parent val parent [] = refl
-met_by_parent val parent (l ∷ ls) = ap (λ b. b && not (known_false (val parent))) (sym (all-unfound (is_false_literal val) (l ∷ ls)))
+met_by_parent val parent (l ∷ ls) =
+    ap (λ b. b && not (known_false (val parent))) (sym (all-unfound (is_false_literal val) (l ∷ ls)))

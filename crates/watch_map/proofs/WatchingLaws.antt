@@ -8,7 +8,8 @@ use Rattle.std.proofs.lemmas.Map.Steps.{length-le_from_distinct_below}
 use Rattle.typed_ids.specs.TotalMaps.{IsUpdate}
 use Rattle.decisions.specs.Literals.{Lit, Pos, Neg}
 use Rattle.clauses.specs.Clauses.{same_literal}
-use Rattle.watch_map.specs.Watching.{is_literal_in, is_clause_in, AreTwo, AreTwoOrNone, IsExact, started, without, moved, before, behind}
+use Rattle.watch_map.specs.Watching.{is_literal_in, is_clause_in, AreTwo, AreTwoOrNone, IsExact, started, without}
+use Rattle.watch_map.specs.Watching.{moved, before, behind}
 use Rattle.watch_map.specs.WatchLists.{Watches, watched_by}
 
 -- ---- literals
@@ -71,7 +72,8 @@ pub not_in : (c : ℕ) (cs : List ℕ) → AllByRecursion (λ d. nat_eq c d ≡ 
 not_in c [] h = refl
 not_in c (d ∷ cs) h = rw h.0 (not_in c cs h.1)
 
-pub distinct_more : (c : ℕ) (cs : List ℕ) → is_clause_in c cs ≡ false → IsDistinct nat_eq cs → IsDistinct nat_eq (c ∷ cs)
+pub distinct_more : (c : ℕ) (cs : List ℕ) → is_clause_in c cs ≡ false → IsDistinct nat_eq cs →
+    IsDistinct nat_eq (c ∷ cs)
 unfolding IsDistinct
 distinct_more c cs h d = (absent c cs h, d)
 
@@ -92,7 +94,8 @@ split c (d ∷ cs) h = go (nat_eq d c) refl (split c cs)
         d ∷ cs ≡ cond b [] (d ∷ before c cs) ++ c ∷ cond b cs (behind c cs)
     go true e ih = ap (λ x. x ∷ cs) (eqb-true d c e)
     go false e ih =
-        let apart : nat_eq c d ≡ false = eqb_apart c d (λ k. let z : nat_eq d c ≡ true = eq-eqb d c (sym k) in let y : true ≡ false = sym z ∙ e in cc) in
+        let apart : nat_eq c d ≡ false = eqb_apart c d (λ k. let z : nat_eq d c ≡ true = eq-eqb d c (sym k) in
+        let y : true ≡ false = sym z ∙ e in cc) in
         let inside : is_clause_in c cs ≡ true = rw apart at h in
         ap (λ xs. d ∷ xs) (ih inside)
 
@@ -110,10 +113,12 @@ pub without_absent : (c : ℕ) (cs : List ℕ) → is_clause_in c cs ≡ false �
 without_absent c [] h = refl
 without_absent c (d ∷ cs) h =
     let e : nat_eq c d ≡ false = or_first (nat_eq c d) _ h in
-    let apart : nat_eq d c ≡ false = eqb_apart d c (λ j. let z : nat_eq c d ≡ true = eq-eqb c d (sym j) in let y : true ≡ false = sym z ∙ e in cc) in
+    let apart : nat_eq d c ≡ false = eqb_apart d c (λ j. let z : nat_eq c d ≡ true = eq-eqb c d (sym j) in
+    let y : true ≡ false = sym z ∙ e in cc) in
     rw apart (ap (λ xs. d ∷ xs) (without_absent c cs (or_second (nat_eq c d) _ h)))
 
-pub without_parts : (c : ℕ) (front back : List ℕ) → IsDistinct nat_eq (front ++ c ∷ back) → without c (front ++ c ∷ back) ≡ front ++ back
+pub without_parts : (c : ℕ) (front back : List ℕ) → IsDistinct nat_eq (front ++ c ∷ back) →
+    without c (front ++ c ∷ back) ≡ front ++ back
 without_parts c [] back d = rw (eqb_self c) (without_absent c back (distinct_head c back d))
 without_parts c (x ∷ front) back d =
     let apart : nat_eq x c ≡ false = apart_from x c front back (distinct_head x (front ++ c ∷ back) d) in
@@ -150,7 +155,8 @@ all_without P c (x ∷ cs) a = go (not (nat_eq x c)) (all_without P c cs a.1)
 pub distinct_without : (c : ℕ) (cs : List ℕ) → IsDistinct nat_eq cs → IsDistinct nat_eq (without c cs)
 unfolding IsDistinct
 distinct_without c [] d = tt
-distinct_without c (x ∷ cs) d = go (not (nat_eq x c)) (all_without (λ y. nat_eq x y ≡ false) c cs d.0) (distinct_without c cs d.1)
+distinct_without c (x ∷ cs) d =
+    go (not (nat_eq x c)) (all_without (λ y. nat_eq x y ≡ false) c cs d.0) (distinct_without c cs d.1)
   where
     go : (b : Bool) → AllByRecursion (λ y. nat_eq x y ≡ false) (without c cs) → IsDistinct nat_eq (without c cs) →
         IsDistinct nat_eq (cond b (x ∷ without c cs) (without c cs))
@@ -180,12 +186,19 @@ record Rewatched (from to : Lit) (was now : List Lit) : Type 0 where
   is_to : is_literal_in to now ≡ true
   was_from : is_literal_in from was ≡ true
   is_from : is_literal_in from now ≡ false
-  others : (l : Lit) → same_literal l to ≡ false → same_literal l from ≡ false → is_literal_in l now ≡ is_literal_in l was
+  others : (l : Lit) → same_literal l to ≡ false → same_literal l from ≡ false →
+      is_literal_in l now ≡ is_literal_in l was
 
 module _ (watched watched' : ℕ → List Lit) (lists : Lit → List ℕ) (clause : ℕ) (ex : IsExact watched lists) where
   -- a clause that watched nothing and now watches two
-  pub started_exact : (ls : List Lit) → watched clause ≡ [] → AreTwo ls → IsUpdate watched clause ls watched' → IsExact watched' (started clause ls lists)
-  started_exact ls none two update = record { two = two_of; once = once; stands = λ l c. stands l c (nat_eq c clause) refl (is_literal_in l ls) refl }
+  pub started_exact : (ls : List Lit) → watched clause ≡ [] → AreTwo ls → IsUpdate watched clause ls watched' →
+      IsExact watched' (started clause ls lists)
+  started_exact ls none two update = record {
+    two = two_of;
+    once = once;
+    stands =
+        λ l c. stands l c (nat_eq c clause) refl (is_literal_in l ls) refl;
+  }
     where
       two_of : (c : ℕ) → AreTwoOrNone (watched' c)
       two_of c = go (nat_eq c clause) refl
@@ -212,7 +225,8 @@ module _ (watched watched' : ℕ → List Lit) (lists : Lit → List ℕ) (claus
       stands l c false e false h = rw (update.1 c (eqb-false c clause e)) (ex.stands l c)
 
   -- a clause that watches `to` in the place of `from`
-  pub moved_exact : (index : ℕ) (from to : Lit) → index < length (watched clause) → slice_index_or (watched clause) index from ≡ from →
+  pub moved_exact : (index : ℕ) (from to : Lit) → index < length (watched clause) →
+      slice_index_or (watched clause) index from ≡ from →
       is_literal_in to (watched clause) ≡ false → IsUpdate watched clause (set (watched clause) index to) watched' →
       IsExact watched' (moved clause from to lists)
   moved_exact index from to within read new update = record {
@@ -246,31 +260,37 @@ module _ (watched watched' : ℕ → List Lit) (lists : Lit → List ℕ) (claus
           let to_a : same_literal to a ≡ false = first_false _ _ n in
           let to_b : same_literal to b ≡ false = first_false _ _ (second_false _ _ n) in
           let from_b : same_literal from b ≡ false = subst (λ x. same_literal x b ≡ false) r two in
-          let from_to : same_literal from to ≡ false = same_swap from to ∙ subst (λ x. same_literal to x ≡ false) r to_a in
+          let from_to : same_literal from to ≡ false = same_swap from to
+          ∙ subst (λ x. same_literal to x ≡ false) r to_a in
           record {
             two = to_b;
             is_to = rw (same_self to) refl;
-            was_from = subst (λ x. (same_literal from x || (same_literal from b || false)) ≡ true) (sym r) (rw (same_self from) refl);
+            was_from = subst (λ x. (same_literal from x || (same_literal from b || false)) ≡ true) (sym r)
+                (rw (same_self from) refl);
             is_from = rw (from_to, from_b) refl;
-            others = λ l p q. let la : same_literal l a ≡ false = subst (λ x. same_literal l x ≡ false) (sym r) q in rw (p, la) refl;
+            others = λ l p q. let la : same_literal l a ≡ false = subst (λ x. same_literal l x ≡ false) (sym r) q in
+                rw (p, la) refl;
           }
       rewatched (a ∷ b ∷ []) (suc zero) two w r n =
           let to_a : same_literal to a ≡ false = first_false _ _ n in
           let to_b : same_literal to b ≡ false = first_false _ _ (second_false _ _ n) in
           let from_a : same_literal from a ≡ false = same_swap from a ∙ subst (λ x. same_literal a x ≡ false) r two in
-          let from_to : same_literal from to ≡ false = same_swap from to ∙ subst (λ x. same_literal to x ≡ false) r to_b in
+          let from_to : same_literal from to ≡ false = same_swap from to
+          ∙ subst (λ x. same_literal to x ≡ false) r to_b in
           record {
             two = same_swap a to ∙ to_a;
             is_to = rw (same_self to) (or_true (same_literal to a));
             was_from = subst (λ x. (same_literal from a || (same_literal from x || false)) ≡ true) (sym r)
                 (rw (same_self from) (or_true (same_literal from a)));
             is_from = rw (from_to, from_a) refl;
-            others = λ l p q. let lb : same_literal l b ≡ false = subst (λ x. same_literal l x ≡ false) (sym r) q in rw (p, lb) refl;
+            others = λ l p q. let lb : same_literal l b ≡ false = subst (λ x. same_literal l x ≡ false) (sym r) q in
+                rw (p, lb) refl;
           }
       rewatched (a ∷ b ∷ []) (suc (suc i)) two w r n = absurd (omega arith)
 
       re : Rewatched from to (watched clause) (watched' clause)
-      re = subst (Rewatched from to (watched clause)) (sym update.0) (rewatched (watched clause) index (ex.two clause) within read new)
+      re = subst (Rewatched from to (watched clause)) (sym update.0)
+          (rewatched (watched clause) index (ex.two clause) within read new)
 
       two_of : (c : ℕ) (b : Bool) → nat_eq c clause ≡ b → AreTwoOrNone (watched' c)
       two_of c true e = rw (eqb-true c clause e) re.two
@@ -293,12 +313,16 @@ module _ (watched watched' : ℕ → List Lit) (lists : Lit → List ℕ) (claus
       and_false true = refl
       and_false false = refl
 
-      stands : (l : Lit) (c : ℕ) (t : Bool) → same_literal l to ≡ t → (f : Bool) → same_literal l from ≡ f → (b : Bool) → nat_eq c clause ≡ b →
-          is_clause_in c (cond t (clause ∷ lists l) (cond f (without clause (lists l)) (lists l))) ≡ is_literal_in l (watched' c)
-      stands l c true e f q true h = rw (h, eqb-true c clause h) (sym (subst (λ x. is_literal_in x (watched' clause) ≡ true) (sym (same_is l to e)) re.is_to))
+      stands : (l : Lit) (c : ℕ) (t : Bool) → same_literal l to ≡ t → (f : Bool) → same_literal l from ≡ f →
+          (b : Bool) → nat_eq c clause ≡ b →
+          is_clause_in c (cond t (clause ∷ lists l) (cond f (without clause (lists l)) (lists l)))
+          ≡ is_literal_in l (watched' c)
+      stands l c true e f q true h = rw (h, eqb-true c clause h)
+          (sym (subst (λ x. is_literal_in x (watched' clause) ≡ true) (sym (same_is l to e)) re.is_to))
       stands l c true e f q false h = rw (h, update.1 c (eqb-false c clause h)) (ex.stands l c)
       stands l c false e true q true h =
-          let gone : is_clause_in c (without clause (lists l)) ≡ false = rw (in_without clause c (lists l), h) (and_false (is_clause_in c (lists l))) in
+          let gone : is_clause_in c (without clause (lists l)) ≡ false =
+          rw (in_without clause c (lists l), h) (and_false (is_clause_in c (lists l))) in
           let unwatched : is_literal_in l (watched' clause) ≡ false =
           subst (λ x. is_literal_in x (watched' clause) ≡ false) (sym (same_is l from q)) re.is_from in
           gone ∙ sym (subst (λ x. is_literal_in l (watched' x) ≡ false) (sym (eqb-true c clause h)) unwatched)
@@ -311,11 +335,14 @@ module _ (watched watched' : ℕ → List Lit) (lists : Lit → List ℕ) (claus
 
 -- ---- as many clauses as records at most
 
-watched_within : (watches : Watches) (c : ℕ) (l : Lit) → is_literal_in l (watched_by watches c) ≡ true → c < length watches
+watched_within : (watches : Watches) (c : ℕ) (l : Lit) → is_literal_in l (watched_by watches c) ≡ true →
+    c < length watches
 watched_within [] c l h = absurd (let z : false ≡ true = h in cc)
 watched_within (w ∷ watches) zero l h = omega arith
 watched_within (w ∷ watches) (suc c) l h = let k = watched_within watches c l h in omega (arith, k)
 
-pub few : (watches : Watches) (lists : Lit → List ℕ) → IsExact (watched_by watches) lists → (l : Lit) → length (lists l) ≤ length watches
+pub few : (watches : Watches) (lists : Lit → List ℕ) → IsExact (watched_by watches) lists → (l : Lit) →
+    length (lists l) ≤ length watches
 few watches lists ex l =
-    length-le_from_distinct_below (lists l) (length watches) (ex.once l) (λ c h. watched_within watches c l (sym (ex.stands l c) ∙ h))
+    length-le_from_distinct_below (lists l) (length watches) (ex.once l)
+    (λ c h. watched_within watches c l (sym (ex.stands l c) ∙ h))

@@ -7,7 +7,8 @@ pub returns-then-bits-lt-WORD_BITS : goal.returns-then-bits-lt-WORD_BITS
 returns-then-bits-lt-WORD_BITS c = past_below c.args.count c.args.bits
 
 pub returns-else-bits-lt-WORD_BITS : goal.returns-else-bits-lt-WORD_BITS
-returns-else-bits-lt-WORD_BITS c = not_below ∙ sym (past_above c.args.count c.args.bits c.ranges.count.fits c.if-bits-lt-WORD_BITS.false)
+returns-else-bits-lt-WORD_BITS c = not_below
+    ∙ sym (past_above c.args.count c.args.bits c.ranges.count.fits c.if-bits-lt-WORD_BITS.false)
   where
     not_below : nat_lt c.args.bits 64 ≡ false
     not_below = let l = c.if-bits-lt-WORD_BITS.false in grind (arith, nat_tests)

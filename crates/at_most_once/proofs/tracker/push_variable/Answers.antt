@@ -8,7 +8,8 @@ loop-bit-preserved g c = record {
   items = goes_on (λ (h : ℕ × g.row.V.Denot). (c.args.variable, h.1, has_bit c.args.number h.0))
       c.args.clauses.now.items c.loop-bit.clauses.items c.push_reserved.new.self.items
       c.args.helpers.now c.loop-bit.bit c.index-helpers-bit.result _ c.loop-bit-test.true c.index-helpers-bit.is
-      c.loop-bit.invariant.items c.push_reserved.ensures.items (ap (λ b. (c.args.variable, c.index-helpers-bit.result, b)) c.has_bit.ensures);
+      c.loop-bit.invariant.items c.push_reserved.ensures.items
+      (ap (λ b. (c.args.variable, c.index-helpers-bit.result, b)) c.has_bit.ensures);
   len = (let a = c.push_reserved.ensures.len in let b = c.loop-bit.invariant.len in omega arith);
   room = c.push_reserved.ensures.capacity ∙ c.loop-bit.invariant.room;
 }

@@ -17,7 +17,8 @@ returns-clause-held g c =
     let within : top.number < length cs = top_within cs (heap_items old)
     (heap_capacity old) top c.requires.held c.requires.top in
     let at : c.index_mut.result.now ≡ heap_clause cs top.number =
-    get_or_read_under cs top.number c.args.clauses.now.len c.index_mut.result.now no_heap_clause c.index_mut.ensures.value
+    get_or_read_under cs top.number c.args.clauses.now.len c.index_mut.result.now no_heap_clause
+    c.index_mut.ensures.value
     (subst (λ n. top.number < n) (sym c.args.clauses.now.ok.0) within) c.args.clauses.now.ok.0 in
     let some : IsSome c.pop.result = c.pop.ensures.variant.1 (subst (λ n. 0 < n) (sym old.data.ok.0) c.requires.top.0)
     in

@@ -9,7 +9,8 @@ returns-in-Some g c =
     let lists = c.args.lists.now in
     let list = c.list-item.result in
     let rest = drop (i + 1) lists in
-    let behind : drop i lists ≡ list ∷ rest = drop_more lists i list c.loop-list-test.true ∙ ap (λ y. y ∷ rest) (sym c.list-item.is) in
+    let behind : drop i lists ≡ list ∷ rest = drop_more lists i list c.loop-list-test.true
+    ∙ ap (λ y. y ∷ rest) (sym c.list-item.is) in
     c.loop-list.invariant (Some c.in-Some.literal)
     (found-list (goal.F-post g c.args.test.now) (map (λ l. l.items) (drop i lists)) (map (λ l. l.items) rest) list.items
     c.deref.result.now c.in-Some.literal (ap (map (λ l. l.items)) behind) c.deref.ensures.value c.in-Some.ensures)
@@ -20,9 +21,11 @@ loop-list-preserved g c = λ r h.
     let lists = c.args.lists.now in
     let list = c.list-item.result in
     let rest = drop (i + 1) lists in
-    let behind : drop i lists ≡ list ∷ rest = drop_more lists i list c.loop-list-test.true ∙ ap (λ y. y ∷ rest) (sym c.list-item.is) in
+    let behind : drop i lists ≡ list ∷ rest = drop_more lists i list c.loop-list-test.true
+    ∙ ap (λ y. y ∷ rest) (sym c.list-item.is) in
     c.loop-list.invariant r
-    (missed-list (goal.F-post g c.args.test.now) (map (λ l. l.items) (drop i lists)) (map (λ l. l.items) rest) list.items
+    (missed-list (goal.F-post g c.args.test.now) (map (λ l. l.items) (drop i lists))
+    (map (λ l. l.items) rest) list.items
     c.deref.result.now r (ap (map (λ l. l.items)) behind) c.deref.ensures.value c.in_default.ensures h)
 
 pub returns : goal.returns
@@ -30,4 +33,5 @@ returns g c =
     let i = c.loop-list.list-index in
     let lists = c.args.lists.now in
     c.loop-list.invariant None
-    (end-lists (goal.F-post g c.args.test.now) (map (λ l. l.items) (drop i lists)) (ap (map (λ l. l.items)) (drop_all i lists c.loop-list-test.false)))
+    (end-lists (goal.F-post g c.args.test.now) (map (λ l. l.items) (drop i lists))
+    (ap (map (λ l. l.items)) (drop_all i lists c.loop-list-test.false)))

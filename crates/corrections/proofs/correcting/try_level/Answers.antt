@@ -33,7 +33,8 @@ loop-set-preserved g c =
     let extends = subst (λ (marks : List Bool). Extends next new tried.items marks) c.deref-in-Conflict-2.ensures.value
     (subst (λ (marks : List Bool). Extends next new marks c.deref-in-Conflict-2.result.now)
     c.deref-in-Conflict.ensures.value c.in_ok-add_extensions-in-Conflict.ensures) in
-    let conflicting = subst (IfConflict (IsConflict p requested)) c.in-Conflict.is c.in_ok-solvables.ensures.conflict in (
+    let conflicting = subst (IfConflict (IsConflict p requested)) c.in-Conflict.is
+    c.in_ok-solvables.ensures.conflict in (
       refuted_more p requested c.args.level.now next new c.loop-set.set-index tried conflict c.loop-set-test.true
           c.set-item.is extends conflicting c.loop-set.invariant.0,
       c.in_ok-solvables.ensures.conflicts,

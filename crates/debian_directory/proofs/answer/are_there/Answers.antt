@@ -11,5 +11,6 @@ pub returns : goal.returns
 returns c =
     let together = c.args.together.now in
     let test = has together.native.now (map plain_package together.packages.now) in
-    all_from_yields_List (λ n. test (plain_name n)) _ _ c.all.result c.all.ensures.ran (YieldsList-from_slice c.args.names.now cc) (λ x b q k. search (rules, tests))
+    all_from_yields_List (λ n. test (plain_name n)) _ _ c.all.result c.all.ensures.ran
+    (YieldsList-from_slice c.args.names.now cc) (λ x b q k. search (rules, tests))
     ∙ sym (list_all-map test plain_name c.args.names.now)

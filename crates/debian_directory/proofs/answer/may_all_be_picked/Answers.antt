@@ -10,5 +10,6 @@ pub returns : goal.returns
 returns c =
     let rule = c.args.rules.now in
     let test = may_be_picked (plain_request rule.request.now) (map plain_package rule.packages.now) in
-    all_from_yields_List (λ q. test (plain_package q)) _ _ c.all.result c.all.ensures.ran (YieldsList-from_slice c.args.packages.now cc) (λ x b q k. search (rules, tests))
+    all_from_yields_List (λ q. test (plain_package q)) _ _ c.all.result c.all.ensures.ran
+    (YieldsList-from_slice c.args.packages.now cc) (λ x b q k. search (rules, tests))
     ∙ sym (list_all-map test plain_package c.args.packages.now)

@@ -9,6 +9,8 @@ use Rattle.debian_directory.proofs.answer.stay.Goals as goal
 pub returns : goal.returns
 returns c =
     let rule = c.args.rules.now in
-    let test = stays (plain_request rule.request.now) (map plain_package rule.packages.now) (map plain_package c.args.together.now.packages.now) in
-    all_from_yields_List (λ q. test (plain_package q)) _ _ c.all.result c.all.ensures.ran (YieldsList-from_slice rule.packages.now cc) (λ x b q k. search (rules, tests))
+    let test = stays (plain_request rule.request.now) (map plain_package rule.packages.now)
+    (map plain_package c.args.together.now.packages.now) in
+    all_from_yields_List (λ q. test (plain_package q)) _ _ c.all.result c.all.ensures.ran
+    (YieldsList-from_slice rule.packages.now cc) (λ x b q k. search (rules, tests))
     ∙ sym (list_all-map test plain_package rule.packages.now)

@@ -14,6 +14,9 @@ returns c =
     let name = plain_name c.args.name in
     let native = c.args.native.now in
     any_from_yields_List (λ word. is_same name (named native word)) _ _ c.any.result c.any.ensures.ran
-    (YieldsList-from_filter _ (λ word. not (length word == 0)) (YieldsList-from_slice_split _ is_ascii_whitespace c.args.words.now (cc) (cc) (cc) (λ x b q k. search (rules, tests))) c.filter.ensures.closure (λ x b q k. search (rules, tests)))
+    (YieldsList-from_filter _ (λ word. not (length word == 0))
+    (YieldsList-from_slice_split _ is_ascii_whitespace c.args.words.now (cc) (cc) (cc)
+    (λ x b q k. search (rules, tests))) c.filter.ensures.closure (λ x b q k. search (rules, tests)))
     (λ x b q k. search (rules, tests))
-    ∙ sym (list_any-map (is_same name) (named native) (filter (λ word. not (length word == 0)) (slice_split is_ascii_whitespace c.args.words.now)))
+    ∙ sym (list_any-map (is_same name) (named native) (filter (λ word. not (length word == 0))
+    (slice_split is_ascii_whitespace c.args.words.now)))

@@ -10,6 +10,9 @@ use Rattle.debian_installable.proofs.installable.are_free.Goals as goal
 
 pub returns : goal.returns
 returns c =
-    all_from_yields_List (λ part. is_free c.args.native.now (map plain_package c.args.there.now) (plain_package c.args.one.now) (relation_of part)) _ _ _ c.all.ensures.ran
-    (YieldsList-from_filter _ (λ part. not (is_blank part)) (YieldsList-from_slice_split _ (λ b. b == 44) c.args.field.now (cc) (cc) (cc) (λ x b q k. search (rules, tests))) c.filter.ensures.closure (λ x b q k. search (rules, tests)))
+    all_from_yields_List (λ part. is_free c.args.native.now (map plain_package c.args.there.now)
+    (plain_package c.args.one.now) (relation_of part)) _ _ _ c.all.ensures.ran
+    (YieldsList-from_filter _ (λ part. not (is_blank part))
+    (YieldsList-from_slice_split _ (λ b. b == 44) c.args.field.now (cc) (cc) (cc)
+    (λ x b q k. search (rules, tests))) c.filter.ensures.closure (λ x b q k. search (rules, tests)))
     (λ x b q k. search (rules, tests))

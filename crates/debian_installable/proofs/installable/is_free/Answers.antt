@@ -11,6 +11,7 @@ pub returns : goal.returns
 returns c =
     let one = plain_package c.args.one.now in
     let test = is_free_of c.args.native.now one (plain_relation c.in-Some.relation) in
-    all_from_yields_List (λ q. test (plain_package q)) _ _ c.all.result c.all.ensures.ran (YieldsList-from_slice c.args.there.now cc) (λ x b q k. search (rules, tests))
+    all_from_yields_List (λ q. test (plain_package q)) _ _ c.all.result c.all.ensures.ran
+    (YieldsList-from_slice c.args.there.now cc) (λ x b q k. search (rules, tests))
     ∙ sym (list_all-map test plain_package c.args.there.now)
     ∙ ap (is_free c.args.native.now (map plain_package c.args.there.now) one) c.in-Some.ensures

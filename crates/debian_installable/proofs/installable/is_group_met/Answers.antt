@@ -8,6 +8,8 @@ use Rattle.debian_installable.proofs.installable.is_group_met.Goals as goal
 
 pub returns : goal.returns
 returns c =
-    any_from_yields_List (λ part. is_met c.args.native.now (map plain_package c.args.there.now) (plain_package c.args.one.now) (relation_of part)) _ _ _ c.any.ensures.ran
-    (YieldsList-from_slice_split _ (λ b. b == 124) c.args.group.now c.split.ensures.rest c.split.ensures.done c.split.ensures.closure (λ x b q k. search (rules, tests)))
+    any_from_yields_List (λ part. is_met c.args.native.now (map plain_package c.args.there.now)
+    (plain_package c.args.one.now) (relation_of part)) _ _ _ c.any.ensures.ran
+    (YieldsList-from_slice_split _ (λ b. b == 124) c.args.group.now c.split.ensures.rest c.split.ensures.done
+    c.split.ensures.closure (λ x b q k. search (rules, tests)))
     (λ x b q k. search (rules, tests))

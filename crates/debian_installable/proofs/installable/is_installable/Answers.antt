@@ -11,6 +11,7 @@ pub returns-then-stand_together : goal.returns-then-stand_together
 returns-then-stand_together c =
     let packages = map plain_package c.args.there.now in
     let test = is_served c.args.native.now packages in
-    all_from_yields_List (λ q. test (plain_package q)) _ _ c.all.result c.all.ensures.ran (YieldsList-from_slice c.args.there.now cc) (λ x b q k. search (rules, tests))
+    all_from_yields_List (λ q. test (plain_package q)) _ _ c.all.result c.all.ensures.ran
+    (YieldsList-from_slice c.args.there.now cc) (λ x b q k. search (rules, tests))
     ∙ sym (list_all-map test plain_package c.args.there.now)
     ∙ ap (λ b. b && list_all test packages) (sym (sym c.stand_together.ensures ∙ c.if-stand_together.true))

@@ -10,6 +10,9 @@ use Rattle.debian_installable.proofs.relations.is_provided.Goals as goal
 
 pub returns : goal.returns
 returns c =
-    any_from_yields_List (λ part. is_meant (plain_relation c.args.relation.now) (relation_of part)) _ _ _ c.any.ensures.ran
-    (YieldsList-from_filter _ (λ part. not (is_blank part)) (YieldsList-from_slice_split _ (λ b. b == 44) c.args.field.now (cc) (cc) (cc) (λ x b q k. search (rules, tests))) c.filter.ensures.closure (λ x b q k. search (rules, tests)))
+    any_from_yields_List (λ part. is_meant (plain_relation c.args.relation.now) (relation_of part)) _ _ _
+    c.any.ensures.ran
+    (YieldsList-from_filter _ (λ part. not (is_blank part))
+    (YieldsList-from_slice_split _ (λ b. b == 44) c.args.field.now (cc) (cc) (cc)
+    (λ x b q k. search (rules, tests))) c.filter.ensures.closure (λ x b q k. search (rules, tests)))
     (λ x b q k. search (rules, tests))

@@ -10,4 +10,5 @@ pub returns-clause-value : goal.returns-clause-value
 returns-clause-value c =
     let rest = stanzas (fields c.in-Some.rest.now) in
     ap (result_map (λ first. Some (first, rest))) c.in_ok-package.ensures
-    ∙ package_by (stanzas (fields c.args.text.now)) (Ok (Some (plain_stanza c.in-Some.stanza, rest))) (rw c.in-Some.is at c.in_ok-stanza.ensures.value)
+    ∙ package_by (stanzas (fields c.args.text.now)) (Ok (Some (plain_stanza c.in-Some.stanza, rest)))
+    (rw c.in-Some.is at c.in_ok-stanza.ensures.value)

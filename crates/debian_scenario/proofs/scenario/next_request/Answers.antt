@@ -12,4 +12,5 @@ returns-in_err-request c =
     let rest = stanzas (fields c.in-Some.rest.now) in
     let p = err_from_is_err_and c.from_residual-in_err-request.result c.from_residual-in_err-request.ensures.1 in
     rw (p.1, p.2) (ap (result_map (λ request. (request, rest))) c.in_err-request.ensures
-    ∙ request_by (stanzas (fields c.args.text.now)) (Ok (Some (plain_stanza c.in-Some.stanza, rest))) (rw c.in-Some.is at c.in_ok-stanza.ensures.value))
+    ∙ request_by (stanzas (fields c.args.text.now)) (Ok (Some (plain_stanza c.in-Some.stanza, rest)))
+    (rw c.in-Some.is at c.in_ok-stanza.ensures.value))

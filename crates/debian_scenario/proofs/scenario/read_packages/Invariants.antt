@@ -9,7 +9,8 @@ use Rattle.debian_scenario.proofs.scenario.read_packages.Given as goal
 -- the packages so far, and those of the text that is left
 abbrev pub invariant-packages : goal.invariant-packages
 invariant-packages l =
-    result_map (λ others. plain_packages l.packages ++ others) (packages_from (vec_len l.packages) (stanzas (fields l.rest)))
+    result_map (λ others. plain_packages l.packages ++ others)
+    (packages_from (vec_len l.packages) (stanzas (fields l.rest)))
     ≡ packages_from 0 (stanzas (fields l.text))
 
 abbrev pub decreases-packages : goal.decreases-packages

@@ -10,7 +10,8 @@ popped : (g : given.Over) (c : goal.After-pop g)
 popped g c =
     let stack = c.args.stack.now in
     let newest = rw c.deref.ensures.value at c.in-Some.ensures.value in
-    popped_is_last stack.items c.pop.new.self.items stack.len c.pop.result c.in-Some.decision.now stack.ok.0 (sym newest)
+    popped_is_last stack.items c.pop.new.self.items stack.len c.pop.result c.in-Some.decision.now stack.ok.0
+    (sym newest)
     (c.pop.ensures.value c.in-Some.decision.now) c.pop.ensures.items
 
 pub returns-in-Some-clause-tracked : goal.returns-in-Some-clause-tracked

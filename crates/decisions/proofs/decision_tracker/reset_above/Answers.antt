@@ -16,7 +16,8 @@ loop-left-preserved g c =
     record {
       within = omega (arith, inv.within);
       tracked = IsTracked-pop old new (take (left - 1) ds) newest tracked reset.1;
-      kept = entries_until-pop old new (take (left - 1) ds) newest tracked reset.1 c.args.level reset.0 ∙ (rw is at inv.kept);
+      kept = entries_until-pop old new (take (left - 1) ds) newest tracked reset.1 c.args.level reset.0
+          ∙ (rw is at inv.kept);
     }
 
 pub returns-then-not-reset_above-clause-kept : goal.returns-then-not-reset_above-clause-kept

@@ -10,5 +10,6 @@ returns g c =
     let name = text_of_solvable (g.I.Interner.universe interner) (g.I.Interner.texts interner) c.args.solvable in
     let behind = codes " needs is unknown" in
     c.in_ok-push_str-2.ensures.bytes
-    ∙ ap (λ text. text ++ behind) (c.in_ok-write_solvable.ensures ∙ ap (λ text. text ++ name) c.in_ok-push_str.ensures.bytes)
+    ∙ ap (λ text. text ++ behind) (c.in_ok-write_solvable.ensures
+    ∙ ap (λ text. text ++ name) c.in_ok-push_str.ensures.bytes)
     ∙ append_assoc (old ++ before) name behind ∙ append_assoc old before (name ++ behind)

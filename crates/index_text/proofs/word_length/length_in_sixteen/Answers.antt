@@ -15,13 +15,16 @@ module _ (bytes : List ℕ) (long : length bytes ≡ 16) (mask : ℕ) (is : mask
   up_to some =
       let bits = mask_l (map is_blank bytes) in
       let set : 0 < bits = omega (arith, some, is) in
-      let small : bits < 2 ^ 16 = subst (λ n. bits < 2 ^ n) (length-map bytes _ ∙ long) (mask_l-lt (map is_blank bytes)) in
+      let small : bits < 2 ^ 16 = subst (λ n. bits < 2 ^ n) (length-map bytes _
+      ∙ long) (mask_l-lt (map is_blank bytes)) in
       let found = ap (trailing_zeros w64) is ∙ trailing_mask_l is_blank 64 bytes (omega (arith, long)) set in
       let within = trailing_mask_l is_blank 16 bytes (omega (arith, long)) set in
       (found, subst (λ n. n < 16) (within ∙ sym found) (bit_at-trailing_zeros w16 bits set small).0)
 
 pub returns-then-blanks-eq0 : goal.returns-then-blanks-eq0
-returns-then-blanks-eq0 c = none c.args.bytes c.fits-bytes.0 c.blank_bits-blanks.result c.blank_bits-blanks.ensures c.if-blanks-eq0.true
+returns-then-blanks-eq0 c = none c.args.bytes c.fits-bytes.0 c.blank_bits-blanks.result c.blank_bits-blanks.ensures
+    c.if-blanks-eq0.true
 
 pub returns-else-blanks-eq0 : goal.returns-else-blanks-eq0
-returns-else-blanks-eq0 c = up_to c.args.bytes c.fits-bytes.0 c.blank_bits-blanks.result c.blank_bits-blanks.ensures c.if-blanks-eq0.false
+returns-else-blanks-eq0 c = up_to c.args.bytes c.fits-bytes.0 c.blank_bits-blanks.result c.blank_bits-blanks.ensures
+    c.if-blanks-eq0.false

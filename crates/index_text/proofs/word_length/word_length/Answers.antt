@@ -23,4 +23,9 @@ overflow_add-result-2 c =
     let text = c.args.text.now in
     let rest = drop c.loop-length.length text in
     let left = length text - c.loop-length.length in
-    omega (arith, c.length_by_one.ensures, prefix_len-le-length (λ byte. not (byte == 32)) (take left rest), length-take left rest)
+    omega (
+      arith,
+      c.length_by_one.ensures,
+      prefix_len-le-length (λ byte. not (byte == 32)) (take left rest),
+      length-take left rest,
+    )

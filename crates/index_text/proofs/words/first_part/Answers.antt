@@ -15,7 +15,8 @@ returns-then-is_word-clause-parts c =
     let words = c.args.words.now in
     let i = c.loop-i.i in
     part_ends words i (record { ref_ptr = (0, 0); now = [] }) c.loop-i-test.true c.args.between.now
-    (ap (bytes_eq c.args.between.now) (sym c.as_bytes.ensures.value) ∙ sym c.is_word.ensures ∙ c.if-is_word.true) c.loop-i.invariant
+    (ap (bytes_eq c.args.between.now) (sym c.as_bytes.ensures.value) ∙ sym c.is_word.ensures
+    ∙ c.if-is_word.true) c.loop-i.invariant
     ∙ ap (λ rest. texts (take i words) ∷ slice_split (bytes_eq c.args.between.now) (texts rest))
     (sym (take_all (length words - (i + 1)) (drop (i + 1) words) (omega (arith, length-drop (i + 1) words))))
 
@@ -23,7 +24,8 @@ pub loop-i-preserved : goal.loop-i-preserved
 loop-i-preserved c =
     part_goes_on c.args.words.now c.loop-i.i (record { ref_ptr = (0, 0); now = [] }) c.loop-i-test.true
     c.args.between.now
-    (ap (bytes_eq c.args.between.now) (sym c.as_bytes.ensures.value) ∙ sym c.is_word.ensures ∙ c.if-is_word.false) c.loop-i.invariant
+    (ap (bytes_eq c.args.between.now) (sym c.as_bytes.ensures.value) ∙ sym c.is_word.ensures
+    ∙ c.if-is_word.false) c.loop-i.invariant
 
 pub returns-clause-parts : goal.returns-clause-parts
 returns-clause-parts c = all_before c.args.between.now c.args.words.now c.loop-i.i

@@ -6,14 +6,17 @@ use Rattle.picking.proofs.finding.checked.Goals as goal
 
 -- the provider's functions
 abbrev provided : (g : Over) → g.row.D.Denot → Provider g.row.D-NameId.Denot g.row.D-SolvableId.Denot
-provided g = gathered g.D.NameId.PartialEq.eq g.D.SolvableId.PartialEq.eq g.D.NameId.Slots.IdMap.is_too_large g.D.SolvableId.Slots.IdMap.is_too_large
-    g.D.SolvableId.Set.IdSet.is_too_large g.D.NameId.SolverId.are_many g.D.Interner.universe g.D.DependencyProvider.answers
+provided g = gathered g.D.NameId.PartialEq.eq g.D.SolvableId.PartialEq.eq g.D.NameId.Slots.IdMap.is_too_large
+    g.D.SolvableId.Slots.IdMap.is_too_large
+    g.D.SolvableId.Set.IdSet.is_too_large g.D.NameId.SolverId.are_many g.D.Interner.universe
+    g.D.DependencyProvider.answers
 
 pub returns-clause-granted : goal.returns-clause-granted
 returns-clause-granted g c = λ first below granted.
     let wishes = alternatives_of c.args.request.now.wishes.now in
     c.in_ok-best_up_to.ensures.granted first below
-    (subst (λ picked. AreGranted (provided g c.args.provider.now) picked (take first wishes)) (sym c.deref-2.ensures.value) granted)
+    (subst (λ picked. AreGranted (provided g c.args.provider.now) picked (take first wishes))
+    (sym c.deref-2.ensures.value) granted)
 
 pub returns-clause-caused : goal.returns-clause-caused
 returns-clause-caused g c =

@@ -7,10 +7,13 @@ use Rattle.picking.proofs.finding.is_certified.Goals as goal
 
 -- the provider's functions
 abbrev provided : (g : Over) → g.row.D.Denot → Provider g.row.D-NameId.Denot g.row.D-SolvableId.Denot
-provided g = gathered g.D.NameId.PartialEq.eq g.D.SolvableId.PartialEq.eq g.D.NameId.Slots.IdMap.is_too_large g.D.SolvableId.Slots.IdMap.is_too_large
-    g.D.SolvableId.Set.IdSet.is_too_large g.D.NameId.SolverId.are_many g.D.Interner.universe g.D.DependencyProvider.answers
+provided g = gathered g.D.NameId.PartialEq.eq g.D.SolvableId.PartialEq.eq g.D.NameId.Slots.IdMap.is_too_large
+    g.D.SolvableId.Slots.IdMap.is_too_large
+    g.D.SolvableId.Set.IdSet.is_too_large g.D.NameId.SolverId.are_many g.D.Interner.universe
+    g.D.DependencyProvider.answers
 
 pub returns-clause-enough : goal.returns-clause-enough
 returns-clause-enough g c =
     let p = provided g c.args.provider.now in
-    subst (λ reasons. IfOk c.are_enough.result (λ yes. yes ≡ true → AreEnough p reasons)) c.deref-2.ensures.value c.are_enough.ensures
+    subst (λ reasons. IfOk c.are_enough.result (λ yes. yes ≡ true → AreEnough p reasons)) c.deref-2.ensures.value
+    c.are_enough.ensures

@@ -8,5 +8,6 @@ pub returns : goal.returns
 returns g c =
     let answers = goal.F-post g c.args.test.now in
     holds_by_cases answers c.args.disjunct.now c.all.result
-    (cases_from_all _ _ _ (λ d. HasAnswer answers (candidates_of d) true) (λ d. HasAnswer answers (candidates_of d) false) c.all.ensures.ran
+    (cases_from_all _ _ _ (λ d. HasAnswer answers (candidates_of d) true)
+    (λ d. HasAnswer answers (candidates_of d) false) c.all.ensures.ran
     (YieldsList-from_slice c.args.disjunct.now cc) (λ x q k. search (rules, tests)) (λ x q k. search (rules, tests)))

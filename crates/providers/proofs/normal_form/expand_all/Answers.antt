@@ -19,7 +19,8 @@ loop-alternative-preserved-in-Continue-branch-2 g c = record {
       (g.met.I.Interner.operands_known c.args.interner.now) c.args.condition))
       c.loop-alternative.expansion c.take_next.new.self c.expand.new.self c.in-Some.alternative c.next.new.self
       c.in-Some-next.condition c.resolve_condition.result
-      c.in-Some.ensures.alternatives c.in-Some.ensures.lists c.in-Some-next.ensures.sets c.in-Some-next.ensures.pending c.resolve_condition.ensures
+      c.in-Some.ensures.alternatives c.in-Some.ensures.lists c.in-Some-next.ensures.sets
+      c.in-Some-next.ensures.pending c.resolve_condition.ensures
       c.in_ok-expand-in-Some-next.ensures.ok c.loop-alternative.invariant.goes).0;
 }
 
@@ -30,7 +31,8 @@ loop-alternative-smaller-in-Continue-branch-2 g c =
     (g.met.I.Interner.operands_known c.args.interner.now) c.args.condition))
     c.loop-alternative.expansion c.take_next.new.self c.expand.new.self c.in-Some.alternative c.next.new.self
     c.in-Some-next.condition c.resolve_condition.result
-    c.in-Some.ensures.alternatives c.in-Some.ensures.lists c.in-Some-next.ensures.sets c.in-Some-next.ensures.pending c.resolve_condition.ensures
+    c.in-Some.ensures.alternatives c.in-Some.ensures.lists c.in-Some-next.ensures.sets c.in-Some-next.ensures.pending
+    c.resolve_condition.ensures
     c.in_ok-expand-in-Some-next.ensures.ok c.loop-alternative.invariant.goes).1
 
 pub loop-alternative-preserved : goal.loop-alternative-preserved

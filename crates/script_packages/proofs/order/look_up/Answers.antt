@@ -10,7 +10,8 @@ loop-i-preserved c =
     let i = c.loop-i.i in
     let x = c.with_version.result in
     let within : i < length c.loop-i.list = omega (arith, c.loop-i.invariant.0, c.loop-i-test.true) in
-    let mapped : i < length (map (with_version all) from) = omega (arith, length-map from (with_version all), c.loop-i-test.true) in
+    let mapped : i < length (map (with_version all) from) =
+    omega (arith, length-map from (with_version all), c.loop-i-test.true) in
     let here : get_or (map (with_version all) from) i x ≡ x =
     get_or-map (with_version all) from i c.index-solvables-i.result x c.loop-i-test.true
     ∙ ap (with_version all) (sym c.index-solvables-i.is) ∙ sym c.with_version.ensures in (

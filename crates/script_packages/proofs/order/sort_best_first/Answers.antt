@@ -13,4 +13,5 @@ returns-then-rises-clause-sorted c =
 
 pub returns-then-rises-clause-order : goal.returns-then-rises-clause-order
 returns-then-rises-clause-order c =
-    sorted_is-best_first c.args.pool.now.solvables _ _ c.reverse.ensures.permutation (returns-then-rises-clause-sorted c)
+    sorted_is-best_first c.args.pool.now.solvables _ _ c.reverse.ensures.permutation
+    (returns-then-rises-clause-sorted c)

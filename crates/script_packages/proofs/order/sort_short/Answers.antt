@@ -9,7 +9,8 @@ returns-clause-order c =
     let sorted = c.sort_versioned.new.list in
     subst (λ l. l ≡ best_first all c.args.solvables.now) (sym c.put.ensures)
     (sorted_with_versions all c.args.solvables.now sorted
-    (subst (λ l. IsPermutation l sorted) c.look_up.ensures c.sort_versioned.ensures.permutation) c.sort_versioned.ensures.sorted).0
+    (subst (λ l. IsPermutation l sorted) c.look_up.ensures c.sort_versioned.ensures.permutation)
+    c.sort_versioned.ensures.sorted).0
 
 pub returns-clause-sorted : goal.returns-clause-sorted
 returns-clause-sorted c =
@@ -17,4 +18,5 @@ returns-clause-sorted c =
     let sorted = c.sort_versioned.new.list in
     subst (λ l. IsSorted (preference all) l) (sym c.put.ensures)
     (sorted_with_versions all c.args.solvables.now sorted
-    (subst (λ l. IsPermutation l sorted) c.look_up.ensures c.sort_versioned.ensures.permutation) c.sort_versioned.ensures.sorted).1
+    (subst (λ l. IsPermutation l sorted) c.look_up.ensures c.sort_versioned.ensures.permutation)
+    c.sort_versioned.ensures.sorted).1

@@ -9,5 +9,6 @@ returns-then-one-other c =
 
 pub returns-else-one-other : goal.returns-else-one-other
 returns-else-one-other c =
-    let compared : c.cmp-else-one-other.result ≡ nat_cmp c.args.other.now.version c.args.one.now.version = search rules in
+    let compared : c.cmp-else-one-other.result ≡ nat_cmp c.args.other.now.version c.args.one.now.version =
+    search rules in
     compared ∙ of_two_versions c.args.one.now c.args.other.now c.if-one-other.false

@@ -14,7 +14,8 @@ returns-clause-first c =
     → words line ≡ take k line ∷ words (drop k line) =
     λ is. elim is [
       | inl none ↦ absurd (c.if-length-eq0.false (omega (arith, c.min-length.ensures, none)))
-      | inr some ↦ first_word_ends line text found k c.requires.begins some.2 some.0 some.1 (omega (arith, c.if-length-eq0.false)) c.requires.printed (ends k found (length line) c.min-length.ensures)
+      | inr some ↦ first_word_ends line text found k c.requires.begins some.2 some.0 some.1
+          (omega (arith, c.if-length-eq0.false)) c.requires.printed (ends k found (length line) c.min-length.ensures)
     ] in
     by_length c.short_length.ensures ∙ sym (λ i. c.split_at.ensures.front i ∷ words (c.split_at.ensures.back i))
     ∙ ap (λ ws. c.split_at.result.0.now ∷ ws) (sym c.after_blank.ensures.words)

@@ -6,5 +6,6 @@ use Rattle.script_text.proofs.input.read_pieces.Given as goal
 abbrev pub invariant-loop : goal.invariant-loop
 invariant-loop g l = record {
   calls : Calls g.S.Source.reads l.counter l.fn.reader l.reader;
-  bytes : (bytes : List ℕ) × Consumes (g.S.Source.remaining l.fn.reader) (g.S.Source.remaining l.reader) bytes × (l.input.items ≡ l.fn.input.items ++ bytes);
+  bytes : (bytes : List ℕ) × Consumes (g.S.Source.remaining l.fn.reader) (g.S.Source.remaining l.reader) bytes
+      × (l.input.items ≡ l.fn.input.items ++ bytes);
 }

@@ -9,10 +9,12 @@ split_at-requires c = omega (arith, c.printed_length.ensures, prefix_len-le-leng
 
 pub returns-in-Some-clause-first : goal.returns-in-Some-clause-first
 returns-in-Some-clause-first c =
-    printed_line c.args.text.now c.split_at.result.0.now c.split_at.result.1.now c.in-Some.rest.now c.printed_length.result
+    printed_line c.args.text.now c.split_at.result.0.now c.split_at.result.1.now c.in-Some.rest.now
+    c.printed_length.result
     c.printed_length.ensures c.split_at.ensures.front c.split_at.ensures.back c.in-Some.ensures
 
 pub returns-in-Some-clause-printed : goal.returns-in-Some-clause-printed
 returns-in-Some-clause-printed c =
-    sym (printed_front c.args.text.now c.split_at.result.0.now c.split_at.result.1.now c.in-Some.rest.now c.printed_length.result
+    sym (printed_front c.args.text.now c.split_at.result.0.now c.split_at.result.1.now c.in-Some.rest.now
+    c.printed_length.result
     c.printed_length.ensures c.split_at.ensures.front c.split_at.ensures.back)

@@ -12,5 +12,6 @@ loop-i-preserved c =
     let rest = drop (i + 1) text in
     let other : (byte == 10) ≡ false = search rules in
     ap (λ begun. lines_from begun rest) (take_more text i 0 c.loop-i-test.true)
-    ∙ (sym (ap (λ ends. if ends then without_return (take i text) ∷ lines_from [] rest else lines_from (take i text ++ byte ∷ []) rest) other)
+    ∙ (sym (ap (λ ends. if ends then without_return (take i text) ∷ lines_from [] rest else lines_from
+    (take i text ++ byte ∷ []) rest) other)
     ∙ (sym (ap (lines_from (take i text)) (drop_more text i 0 c.loop-i-test.true)) ∙ c.loop-i.invariant))

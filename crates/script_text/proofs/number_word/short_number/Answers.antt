@@ -1,4 +1,5 @@
-use Rattle.std.proofs.Common.{◌≡◌, ℕ, ◌==◌, false, ◌∷◌, ◌∙◌, ◌+◌, ◌*◌, ◌%◌, ◌^◌, ◌<◌, true, length, take, get_or, ap, ap₂, sym, arith}
+use Rattle.std.proofs.Common.{◌≡◌, ℕ, ◌==◌, false, ◌∷◌, ◌∙◌, ◌+◌, ◌*◌, ◌%◌, ◌^◌, ◌<◌, true, length, take, get_or, ap}
+use Rattle.std.proofs.Common.{ap₂, sym, arith}
 use Rattle.std.proofs.lemmas.Bool.Decides.{nat_tests}
 use Rattle.std.proofs.lemmas.List.{take_rest, take_all, drop_all}
 use Rattle.script_text.specs.Numbers.{is_digit, number_of}
@@ -15,14 +16,16 @@ loop-i-preserved c =
     let i = c.loop-i.i in
     let n = c.loop-i.value in
     let digit : is_digit (get_or text i 0) ≡ true = sym c.is_ascii_digit.ensures.value ∙ c.if-is_ascii_digit.true in
-    short_goes_on text i n _ c.loop-i-test.true c.loop-i.invariant digit (ap (λ d. (n * 10 % (2 ^ 64) + d) % (2 ^ 64)) c.from.ensures)
+    short_goes_on text i n _ c.loop-i-test.true c.loop-i.invariant digit
+    (ap (λ d. (n * 10 % (2 ^ 64) + d) % (2 ^ 64)) c.from.ensures)
 
 pub returns-then-i-le-SHORT-clause-first : goal.returns-then-i-le-SHORT-clause-first
 returns-then-i-le-SHORT-clause-first c =
     let text = c.args.text.now in
     let i = c.loop-i.i in
     let some : 0 < length text = omega arith in
-    first_until_blank text i c.loop-i.value some c.requires c.if-i-le-SHORT.true c.loop-i.invariant c.loop-i-test.true c.if-byte-eq32.true
+    first_until_blank text i c.loop-i.value some c.requires c.if-i-le-SHORT.true c.loop-i.invariant
+    c.loop-i-test.true c.if-byte-eq32.true
     ∙ ap (λ l. take i text ∷ words l) (sym (take_rest text (i + 1)))
 
 pub returns-clause-first : goal.returns-clause-first

@@ -11,5 +11,9 @@ loop-preserved g c =
     record {
       calls = calls_more g.W.Sink.writes c.loop.counter c.args.writer.now c.loop.writer c.write_some.new.writer
           c.loop.invariant.calls c.in_ok-taken.ensures.once;
-      split = (done ++ take n rest, moves_front c.args.bytes.now done rest n split, Appends-trans _ _ _ _ _ appended c.in_ok-taken.ensures.bytes);
+      split = (
+        done ++ take n rest,
+        moves_front c.args.bytes.now done rest n split,
+        Appends-trans _ _ _ _ _ appended c.in_ok-taken.ensures.bytes,
+      );
     }

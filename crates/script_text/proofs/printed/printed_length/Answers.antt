@@ -8,13 +8,15 @@ use Rattle.script_text.proofs.printed.printed_length.Goals as goal
 pub returns-in-Some : goal.returns-in-Some
 returns-in-Some c =
     let room : c.loop-length.length + 16 ≤ length c.args.text.now = omega arith in
-    let ends = ends_in_sixteen is_printed c.args.text.now c.loop-length.length c.in-Some.found room c.in-Some.ensures.0 c.in-Some.ensures.1 in
+    let ends = ends_in_sixteen is_printed c.args.text.now c.loop-length.length c.in-Some.found room
+    c.in-Some.ensures.0 c.in-Some.ensures.1 in
     omega (arith, ends, c.loop-length.invariant.counted)
 
 pub loop-length-preserved : goal.loop-length-preserved
 loop-length-preserved c =
     let room : c.loop-length.length + 16 ≤ length c.args.text.now = omega arith in
-    let goes_on = goes_on_after_sixteen is_printed c.args.text.now c.loop-length.length 16 room (sym c.in_default.ensures) refl in
+    let goes_on = goes_on_after_sixteen is_printed c.args.text.now c.loop-length.length 16 room
+    (sym c.in_default.ensures) refl in
     record { within = room; counted = omega (arith, goes_on, c.loop-length.invariant.counted) }
 
 pub overflow_add-result-2 : goal.overflow_add-result-2

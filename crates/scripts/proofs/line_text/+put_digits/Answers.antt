@@ -23,13 +23,17 @@ pub returns-then-number-lt10-clause-line : goal.returns-then-number-lt10-clause-
 returns-then-number-lt10-clause-line t c = grind (arith, common_steps, decimal_digit c.args.number (omega arith))
 
 pub returns-then-number-lt100-clause-end : goal.returns-then-number-lt100-clause-end
-returns-then-number-lt100-clause-end t c = grind (arith, common_steps, two_digits c.args.number (omega arith) (omega arith))
+returns-then-number-lt100-clause-end t c =
+    grind (arith, common_steps, two_digits c.args.number (omega arith) (omega arith))
 
 pub returns-then-number-lt100-clause-line : goal.returns-then-number-lt100-clause-line
-returns-then-number-lt100-clause-line t c = grind (arith, common_steps, two_digits c.args.number (omega arith) (omega arith))
+returns-then-number-lt100-clause-line t c =
+    grind (arith, common_steps, two_digits c.args.number (omega arith) (omega arith))
 
 pub returns-else-number-lt100-clause-end : goal.returns-else-number-lt100-clause-end
-returns-else-number-lt100-clause-end t c = grind (arith, common_steps, two_longer c.args.number (omega arith) (omega arith))
+returns-else-number-lt100-clause-end t c =
+    grind (arith, common_steps, two_longer c.args.number (omega arith) (omega arith))
 
 pub returns-else-number-lt100-clause-line : goal.returns-else-number-lt100-clause-line
-returns-else-number-lt100-clause-line t c = grind (arith, common_steps, two_more c.args.number (omega arith) (omega arith))
+returns-else-number-lt100-clause-line t c =
+    grind (arith, common_steps, two_more c.args.number (omega arith) (omega arith))

@@ -10,12 +10,14 @@ returns-in_err-push_digits t c =
     grind (
       arith,
       common_steps,
-      begun c.args.text.now.items (decimal (n / 10000)) (last_four n) (decimal n) (four_more n (omega arith) (omega arith)) _ c.in_err-push_digits.ensures,
+      begun c.args.text.now.items (decimal (n / 10000)) (last_four n) (decimal n)
+          (four_more n (omega arith) (omega arith)) _ c.in_err-push_digits.ensures,
     )
 
 pub returns-in_ok-push_digits : goal.returns-in_ok-push_digits
 returns-in_ok-push_digits t c =
     let n = c.args.number in
-    put_behind c.args.text.now.items (decimal (n / 10000)) (last_four n) (decimal n) (four_more n (omega arith) (omega arith)) _ _ _
+    put_behind c.args.text.now.items (decimal (n / 10000)) (last_four n) (decimal n)
+    (four_more n (omega arith) (omega arith)) _ _ _
     c.in_ok-push_digits.ensures
     (put _ _ _ _ _ c.extend_from_slice.ensures.items (sym c.four.ensures))

@@ -5,4 +5,5 @@ use Rattle.scripts.proofs.reply_line.push_clauses.Given as goal
 
 abbrev pub invariant-loop-clause : goal.invariant-loop-clause
 invariant-loop-clause l =
-    l.text.items ++ flat_map (field (codes " ")) (drop l.clause-index l.clauses) ≡ l.initial.text.items ++ flat_map (field (codes " ")) l.clauses
+    l.text.items ++ flat_map (field (codes " ")) (drop l.clause-index l.clauses)
+    ≡ l.initial.text.items ++ flat_map (field (codes " ")) l.clauses

@@ -7,7 +7,8 @@ use Rattle.scripts.proofs.reply_line.push_few_digits.Goals as goal
 
 pub returns-then-number-lt100 : goal.returns-then-number-lt100
 returns-then-number-lt100 c =
-    put _ _ _ _ _ c.extend_from_slice.ensures.items (two_digits c.args.number c.requires.more (omega arith) ∙ sym c.pair.ensures)
+    put _ _ _ _ _ c.extend_from_slice.ensures.items (two_digits c.args.number c.requires.more (omega arith)
+    ∙ sym c.pair.ensures)
 
 pub returns-then-number-lt1000 : goal.returns-then-number-lt1000
 returns-then-number-lt1000 c =

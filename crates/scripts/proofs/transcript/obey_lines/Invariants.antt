@@ -17,12 +17,14 @@ store g = store_of (gathered g.D.NameId.PartialEq.eq g.D.SolvableId.PartialEq.eq
 
 -- what numbers stand for
 abbrev pub named : (g : goal.Over) → Ids g.row.D-NameId.Denot g.row.D-SolvableId.Denot
-named g = ids_at g.D.NameId.DenseIndex.limit g.D.NameId.DenseIndex.id_at g.D.SolvableId.DenseIndex.limit g.D.SolvableId.DenseIndex.id_at
+named g = ids_at g.D.NameId.DenseIndex.limit g.D.NameId.DenseIndex.id_at g.D.SolvableId.DenseIndex.limit
+    g.D.SolvableId.DenseIndex.id_at
 
 abbrev pub invariant-loop-said : goal.invariant-loop-said
 invariant-loop-said g l = record {
   fits : l.number + length l.rest ≤ l.before + length l.lines;
-  so_far : SoFar (named g) (store g l.fn.store) l.before (lines_of l.lines) (g.W.Sink.contents l.fn.writer) l.fn.waiting.items
+  so_far : SoFar (named g) (store g l.fn.store) l.before (lines_of l.lines)
+      (g.W.Sink.contents l.fn.writer) l.fn.waiting.items
       (store g l.store) l.number (lines_of l.rest) (g.W.Sink.contents l.writer) l.waiting.items;
   writer : GoesWell g.W.Sink.writes g.W.Sink.fails l.fn.writer l.writer;
   command : HasCommand (named g) (lines_of l.rest) → HasCommand (named g) (lines_of l.lines);

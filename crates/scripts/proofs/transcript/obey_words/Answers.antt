@@ -6,7 +6,8 @@ use Rattle.scripts.proofs.transcript.obey_words.Goals as goal
 
 pub returns-in-Err : goal.returns-in-Err
 returns-in-Err g c =
-    let read = command_said (ids_at g.D.NameId.DenseIndex.limit g.D.NameId.DenseIndex.id_at g.D.SolvableId.DenseIndex.limit
+    let read = command_said (ids_at g.D.NameId.DenseIndex.limit g.D.NameId.DenseIndex.id_at
+    g.D.SolvableId.DenseIndex.limit
     g.D.SolvableId.DenseIndex.id_at) in
     unread g.row.D-Alloc.Denot (Unit {0}) read
     (store_of (gathered g.D.NameId.PartialEq.eq g.D.SolvableId.PartialEq.eq g.D.NameId.Slots.IdMap.is_too_large

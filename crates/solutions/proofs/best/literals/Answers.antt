@@ -8,8 +8,10 @@ use Rattle.solutions.proofs.best.literals.Goals as goal
 
 -- the provider's functions
 abbrev provided : (g : Over) → g.row.D.Denot → Provider g.row.D-NameId.Denot g.row.D-SolvableId.Denot
-provided g = gathered g.D.NameId.PartialEq.eq g.D.SolvableId.PartialEq.eq g.D.NameId.Slots.IdMap.is_too_large g.D.SolvableId.Slots.IdMap.is_too_large
-    g.D.SolvableId.Set.IdSet.is_too_large g.D.NameId.SolverId.are_many g.D.Interner.universe g.D.DependencyProvider.answers
+provided g = gathered g.D.NameId.PartialEq.eq g.D.SolvableId.PartialEq.eq g.D.NameId.Slots.IdMap.is_too_large
+    g.D.SolvableId.Slots.IdMap.is_too_large
+    g.D.SolvableId.Set.IdSet.is_too_large g.D.NameId.SolverId.are_many g.D.Interner.universe
+    g.D.DependencyProvider.answers
 
 pub loop-alternative-preserved : goal.loop-alternative-preserved
 loop-alternative-preserved g c = λ other.
@@ -19,7 +21,8 @@ loop-alternative-preserved g c = λ other.
     let fact = ap (λ k. k.fact) c.new.ensures ∙ c.in_ok-atom.ensures.fact in
     let value = ap (λ k. k.value) c.new.ensures in
     let pushed : c.push.new.self.items ≡ c.loop-alternative.literals.items ++ l ∷ [] = search rules in
-    literals_more p c.args.alternatives.now c.loop-alternative.alternative-index a c.loop-alternative.literals.items c.push.new.self.items l other
+    literals_more p c.args.alternatives.now c.loop-alternative.alternative-index a c.loop-alternative.literals.items
+    c.push.new.self.items l other
     c.loop-alternative-test.true c.alternative-item.is pushed (literal_is_so p l a fact value other)
     (c.loop-alternative.invariant other)
 
@@ -27,4 +30,5 @@ pub returns : goal.returns
 returns g c = λ other.
     let p = provided g c.args.encoder.now.provider.now in
     c.loop-alternative.invariant other
-    ∙ ap (map (is_so p other)) (take_all c.loop-alternative.alternative-index c.args.alternatives.now c.loop-alternative-test.false)
+    ∙ ap (map (is_so p other)) (take_all c.loop-alternative.alternative-index c.args.alternatives.now
+    c.loop-alternative-test.false)

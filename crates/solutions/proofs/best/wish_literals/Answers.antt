@@ -1,4 +1,5 @@
-use Rattle.std.proofs.Common.{◌≡◌, ◌∙◌, ◌+◌, ◌<◌, ◌++◌, ◌∷◌, [], length, ltb-true, map, take, ap, slice_index, sym, rules, arith}
+use Rattle.std.proofs.Common.{◌≡◌, ◌∙◌, ◌+◌, ◌<◌, ◌++◌, ◌∷◌, [], length, ltb-true, map, take, ap, slice_index, sym}
+use Rattle.std.proofs.Common.{rules, arith}
 use Rattle.std.proofs.lemmas.List.{length-append}
 use Rattle.resolvo_pool.specs.Functions.{Provider, gathered}
 use Rattle.solutions.specs.Truth.{truth}
@@ -9,8 +10,10 @@ use Rattle.solutions.proofs.best.wish_literals.Goals as goal
 
 -- the provider's functions
 abbrev provided : (g : Over) → g.row.D.Denot → Provider g.row.D-NameId.Denot g.row.D-SolvableId.Denot
-provided g = gathered g.D.NameId.PartialEq.eq g.D.SolvableId.PartialEq.eq g.D.NameId.Slots.IdMap.is_too_large g.D.SolvableId.Slots.IdMap.is_too_large
-    g.D.SolvableId.Set.IdSet.is_too_large g.D.NameId.SolverId.are_many g.D.Interner.universe g.D.DependencyProvider.answers
+provided g = gathered g.D.NameId.PartialEq.eq g.D.SolvableId.PartialEq.eq g.D.NameId.Slots.IdMap.is_too_large
+    g.D.SolvableId.Slots.IdMap.is_too_large
+    g.D.SolvableId.Set.IdSet.is_too_large g.D.NameId.SolverId.are_many g.D.Interner.universe
+    g.D.DependencyProvider.answers
 
 pub loop-place-init : goal.loop-place-init
 loop-place-init g c = record { count = search rules; same = λ other place less. absurd (omega arith) }
@@ -29,8 +32,10 @@ loop-place-preserved g c =
     let so_far = c.loop-place.invariant in
     record {
       count = ap length pushed ∙ simp length-append (ap (λ n. n + 1) so_far.count);
-      same = λ other. same_more (is_so p other) (truth p other) place ranks (map (rank p other) (alternatives_of wishes)) lists c.push.new.self.items list
-          wish.alternatives.items so_far.count pushed (rank_at p other wishes place wish inside c.in-Some.ensures.lookup.1)
+      same = λ other. same_more (is_so p other) (truth p other) place ranks
+          (map (rank p other) (alternatives_of wishes)) lists c.push.new.self.items list
+          wish.alternatives.items so_far.count pushed
+          (rank_at p other wishes place wish inside c.in-Some.ensures.lookup.1)
           (c.in_ok-list.ensures other ∙ ap (map (is_so p other)) (c.up_to.ensures
           ∙ ap (take (slice_index ranks place + 1)) c.deref.ensures.value))
           (so_far.same other);
@@ -43,8 +48,10 @@ returns-in_default g c =
     let place = c.loop-place.place in
     λ other.
     let size : length (map (rank p other) (alternatives_of wishes)) ≡ length wishes = ranks_length p other wishes in
-    same_past (truth p other) place (length c.args.ranks.now) c.args.ranks.now (map (rank p other) (alternatives_of wishes)) c.loop-place.lists.items
-    c.loop-place.invariant.count (let end = c.in_default.ensures.lookup.3 in omega arith) (c.loop-place.invariant.same other)
+    same_past (truth p other) place (length c.args.ranks.now) c.args.ranks.now
+    (map (rank p other) (alternatives_of wishes)) c.loop-place.lists.items
+    c.loop-place.invariant.count (let end = c.in_default.ensures.lookup.3 in
+    omega arith) (c.loop-place.invariant.same other)
 
 pub returns : goal.returns
 returns g c = λ other place less.

@@ -8,10 +8,13 @@ use Rattle.solutions.proofs.best.wish_literals.Given as goal
 abbrev pub invariant-loop-place : goal.invariant-loop-place
 invariant-loop-place g l =
     let D = g.D in
-    let p = gathered D.NameId.PartialEq.eq D.SolvableId.PartialEq.eq D.NameId.Slots.IdMap.is_too_large D.SolvableId.Slots.IdMap.is_too_large
-    D.SolvableId.Set.IdSet.is_too_large D.NameId.SolverId.are_many D.Interner.universe D.DependencyProvider.answers l.encoder.provider.now in
+    let p = gathered D.NameId.PartialEq.eq D.SolvableId.PartialEq.eq D.NameId.Slots.IdMap.is_too_large
+    D.SolvableId.Slots.IdMap.is_too_large
+    D.SolvableId.Set.IdSet.is_too_large D.NameId.SolverId.are_many D.Interner.universe D.DependencyProvider.answers
+    l.encoder.provider.now in
     record {
       count : length l.lists.items ≡ l.place;
-      same : (other : List g.row.D-SolvableId.Denot) → AreSameUpTo l.place l.ranks (first_trues (truth p other) l.lists.items)
+      same : (other : List g.row.D-SolvableId.Denot) →
+          AreSameUpTo l.place l.ranks (first_trues (truth p other) l.lists.items)
           (map (rank p other) (alternatives_of l.wishes));
     }

@@ -9,11 +9,19 @@ loop-literal-init g c = follows_none (λ holds. AreTrue holds c.args.literals.no
 pub loop-literal-preserved : goal.loop-literal-preserved
 loop-literal-preserved g c =
     let no : c.in_ok-add.field-0 ≡ false = search rules in
-    follows_step (λ holds. AreTrue holds c.args.literals.now) (λ holds. is_true holds c.literal-item.result ≡ true) c.args.trail.now.literals.items c.loop-literal.trail.literals.items c.add.new.self.literals.items
-    c.in_ok-add.field-0 false no (λ holds such trail. true_at holds c.args.literals.now c.loop-literal.literal-index c.literal-item.result c.loop-literal-test.true c.literal-item.is such) c.loop-literal.invariant c.in_ok-add.ensures
+    follows_step (λ holds. AreTrue holds c.args.literals.now)
+    (λ holds. is_true holds c.literal-item.result ≡ true) c.args.trail.now.literals.items
+    c.loop-literal.trail.literals.items c.add.new.self.literals.items
+    c.in_ok-add.field-0 false no (λ holds such trail. true_at holds c.args.literals.now c.loop-literal.literal-index
+    c.literal-item.result c.loop-literal-test.true c.literal-item.is such) c.loop-literal.invariant
+    c.in_ok-add.ensures
 
 pub returns-then-branch : goal.returns-then-branch
 returns-then-branch g c =
     let yes : c.in_ok-add.field-0 ≡ true = search rules in
-    follows_step (λ holds. AreTrue holds c.args.literals.now) (λ holds. is_true holds c.literal-item.result ≡ true) c.args.trail.now.literals.items c.loop-literal.trail.literals.items c.add.new.self.literals.items
-    c.in_ok-add.field-0 true yes (λ holds such trail. true_at holds c.args.literals.now c.loop-literal.literal-index c.literal-item.result c.loop-literal-test.true c.literal-item.is such) c.loop-literal.invariant c.in_ok-add.ensures
+    follows_step (λ holds. AreTrue holds c.args.literals.now)
+    (λ holds. is_true holds c.literal-item.result ≡ true) c.args.trail.now.literals.items
+    c.loop-literal.trail.literals.items c.add.new.self.literals.items
+    c.in_ok-add.field-0 true yes (λ holds such trail. true_at holds c.args.literals.now c.loop-literal.literal-index
+    c.literal-item.result c.loop-literal-test.true c.literal-item.is such) c.loop-literal.invariant
+    c.in_ok-add.ensures

@@ -9,15 +9,18 @@ use Rattle.solutions.proofs.meeting.is_only_one.Goals as goal
 
 -- the provider's functions
 abbrev provided : (g : Over) → g.row.D.Denot → Provider g.row.D-NameId.Denot g.row.D-SolvableId.Denot
-provided g = gathered g.D.NameId.PartialEq.eq g.D.SolvableId.PartialEq.eq g.D.NameId.Slots.IdMap.is_too_large g.D.SolvableId.Slots.IdMap.is_too_large
-    g.D.SolvableId.Set.IdSet.is_too_large g.D.NameId.SolverId.are_many g.D.Interner.universe g.D.DependencyProvider.answers
+provided g = gathered g.D.NameId.PartialEq.eq g.D.SolvableId.PartialEq.eq g.D.NameId.Slots.IdMap.is_too_large
+    g.D.SolvableId.Slots.IdMap.is_too_large
+    g.D.SolvableId.Set.IdSet.is_too_large g.D.NameId.SolverId.are_many g.D.Interner.universe
+    g.D.DependencyProvider.answers
 
 pub loop-other-preserved : goal.loop-other-preserved
 loop-other-preserved g c =
     let p = provided g c.args.provider.now in
     let solvable = c.args.solvable in
     let yes : c.is_no_other.result ≡ true = search rules in
-    next_holds (λ s. p.universe.solvable_name s ≡ p.universe.solvable_name solvable → s ≡ solvable) c.args.solvables.now c.loop-other.other-index
+    next_holds (λ s. p.universe.solvable_name s ≡ p.universe.solvable_name solvable →
+    s ≡ solvable) c.args.solvables.now c.loop-other.other-index
     c.other-item.result c.loop-other-test.true c.other-item.is (c.is_no_other.ensures yes) c.loop-other.invariant
 
 pub returns : goal.returns

@@ -17,13 +17,16 @@ use Rattle.solutions.proofs.needed.are_needed.Goals as goal
 
 -- the provider's functions
 abbrev provided : (g : Over) → g.row.D.Denot → Provider g.row.D-NameId.Denot g.row.D-SolvableId.Denot
-provided g = gathered g.D.NameId.PartialEq.eq g.D.SolvableId.PartialEq.eq g.D.NameId.Slots.IdMap.is_too_large g.D.SolvableId.Slots.IdMap.is_too_large
-    g.D.SolvableId.Set.IdSet.is_too_large g.D.NameId.SolverId.are_many g.D.Interner.universe g.D.DependencyProvider.answers
+provided g = gathered g.D.NameId.PartialEq.eq g.D.SolvableId.PartialEq.eq g.D.NameId.Slots.IdMap.is_too_large
+    g.D.SolvableId.Slots.IdMap.is_too_large
+    g.D.SolvableId.Set.IdSet.is_too_large g.D.NameId.SolverId.are_many g.D.Interner.universe
+    g.D.DependencyProvider.answers
 
 pub loop-place-init : goal.loop-place-init
 loop-place-init g c = record {
   caused = λ place solvable less. absurd (omega arith);
-  needed = All-nil (IsNeeded (provided g c.args.provider.now) c.args.request.now.requirements.now (alternatives_of c.args.request.now.wishes.now) c.args.picked.now);
+  needed = All-nil (IsNeeded (provided g c.args.provider.now) c.args.request.now.requirements.now
+      (alternatives_of c.args.request.now.wishes.now) c.args.picked.now);
 }
 
 pub loop-place-preserved : goal.loop-place-preserved
@@ -39,34 +42,41 @@ loop-place-preserved g c =
     let has = is_kept g.D.SolvableId.PartialEq.eq (g.D.SolvableId.Set.IdSet.has selection.picked) selection.left_out in
     let before = c.before-in-loop-place.result.now in
     let yes : c.in_ok-is_caused_by.field-0 ≡ true = search rules in
-    let selected : IsCausedBy (provided g selection.provider.now) has requirements wishes before cause x = c.in_ok-is_caused_by.ensures yes in
+    let selected : IsCausedBy (provided g selection.provider.now) has requirements wishes before cause x =
+    c.in_ok-is_caused_by.ensures yes in
     let given : IsCausedBy p has requirements wishes before cause x =
-    subst (λ provider. IsCausedBy (provided g provider) has requirements wishes before cause x) c.in_ok-selection.ensures.provider selected in
+    subst (λ provider. IsCausedBy (provided g provider) has requirements wishes before cause x)
+    c.in_ok-selection.ensures.provider selected in
     let among : IsCausedBy p (is_among p picked) requirements wishes before cause x =
     subst (λ h. IsCausedBy p h requirements wishes before cause x) (fun_ext c.in_ok-selection.ensures.picked) given in
     let caused : IsCausedBy p (is_among p picked) requirements wishes (take place picked) cause x =
-    subst (λ list. IsCausedBy p (is_among p picked) requirements wishes list cause x) c.before-in-loop-place.ensures among in
+    subst (λ list. IsCausedBy p (is_among p picked) requirements wishes list cause x) c.before-in-loop-place.ensures
+    among in
     let causes = c.args.causes.now in
     let so_far = c.loop-place.invariant in
     let at : slice_get picked place ≡ Some x =
     slice_get-get_or picked place x c.loop-place-test.true ∙ ap Some (sym c.index-picked-place.is) in
     let below : place < length causes = ltb-true place (length causes) (sym c.in-Some.ensures.lookup.0) in
-    let its : slice_get causes place ≡ Some cause = slice_get_read causes (length causes) place cause refl below c.in-Some.ensures.lookup.1 in
+    let its : slice_get causes place ≡ Some cause =
+    slice_get_read causes (length causes) place cause refl below c.in-Some.ensures.lookup.1 in
     record {
       caused = caused_next p requirements wishes picked causes place x at (cause, its, caused) so_far.caused;
-      needed = next_holds (IsNeeded p requirements wishes picked) picked place x c.loop-place-test.true c.index-picked-place.is
+      needed = next_holds (IsNeeded p requirements wishes picked) picked place x c.loop-place-test.true
+          c.index-picked-place.is
           (needed_by p requirements wishes picked place so_far.needed cause x caused) so_far.needed;
     }
 
 pub returns-clause-caused : goal.returns-clause-caused
 returns-clause-caused g c =
     let p = provided g c.args.provider.now in
-    λ e. caused_all p c.args.request.now.requirements.now (alternatives_of c.args.request.now.wishes.now) c.args.picked.now c.args.causes.now
+    λ e. caused_all p c.args.request.now.requirements.now (alternatives_of c.args.request.now.wishes.now)
+    c.args.picked.now c.args.causes.now
     c.loop-place.place c.loop-place-test.false c.loop-place.invariant.caused
 
 pub returns-clause-needed : goal.returns-clause-needed
 returns-clause-needed g c =
     let p = provided g c.args.provider.now in
     let picked = c.args.picked.now in
-    λ e. subst (All (IsNeeded p c.args.request.now.requirements.now (alternatives_of c.args.request.now.wishes.now) picked))
+    λ e. subst (All (IsNeeded p c.args.request.now.requirements.now
+    (alternatives_of c.args.request.now.wishes.now) picked))
     (take_all c.loop-place.place picked c.loop-place-test.false) c.loop-place.invariant.needed

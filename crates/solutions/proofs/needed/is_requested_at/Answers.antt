@@ -7,7 +7,13 @@ pub returns-in-Some : goal.returns-in-Some
 returns-in-Some g c =
     let requirements = c.args.requirements.now in
     let requirement = c.in-Some.requirement.now in
-    let below : c.args.place < length requirements = ltb-true c.args.place (length requirements) (sym c.in-Some.ensures.lookup.0) in
+    let below : c.args.place < length requirements =
+    ltb-true c.args.place (length requirements) (sym c.in-Some.ensures.lookup.0) in
     answered c.offers.result
-    (λ b decides e. (requirement, slice_get_read requirements (length requirements) c.args.place requirement refl below c.in-Some.ensures.lookup.1, decides.0 e))
+    (λ b decides e. (
+      requirement,
+      slice_get_read requirements
+          (length requirements) c.args.place requirement refl below c.in-Some.ensures.lookup.1,
+      decides.0 e,
+    ))
     c.offers.ensures

@@ -9,5 +9,10 @@ returns g c =
     let parent = c.in-Some.parent.now in
     let below : c.args.place < length before = ltb-true c.args.place (length before) (sym c.in-Some.ensures.lookup.0) in
     answered c.is_offered_by_needs.result
-    (λ b decides e. (parent, slice_get_read before (length before) c.args.place parent refl below c.in-Some.ensures.lookup.1, decides.0 e))
+    (λ b decides e. (
+      parent,
+      slice_get_read before (length before) c.args.place parent refl below
+          c.in-Some.ensures.lookup.1,
+      decides.0 e,
+    ))
     c.is_offered_by_needs.ensures

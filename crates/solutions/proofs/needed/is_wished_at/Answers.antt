@@ -12,6 +12,7 @@ returns-in-Some g c =
     let wish = c.in-Some.wish.now in
     let below : c.args.place < length wishes = ltb-true c.args.place (length wishes) (sym c.in-Some.ensures.lookup.0) in
     let test : Alternative g.row.S.Denot → Bool = λ a. a.is_picked && eq a.solvable c.args.solvable in
-    λ e. wished_at wishes c.args.solvable c.args.place wish (slice_get_read wishes (length wishes) c.args.place wish refl below c.in-Some.ensures.lookup.1)
+    λ e. wished_at wishes c.args.solvable c.args.place wish
+    (slice_get_read wishes (length wishes) c.args.place wish refl below c.in-Some.ensures.lookup.1)
     (has_picked eq g.met.S.SameValue.same wish.alternatives.items c.args.solvable
     (ap (list_any test) (sym c.deref.ensures.value) ∙ sym c.has_picked.ensures ∙ e))

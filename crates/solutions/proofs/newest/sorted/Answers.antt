@@ -19,9 +19,11 @@ returns-in-Some g c =
     let favored : all.favored ≡ answers.favored name =
     sym (ap favored_of c.in-Some.is) ∙ c.in_ok-all.ensures.favored ∙ ap answers.favored c.version_set_name.ensures in
     let listed : all.candidates.items ≡ answers.candidates name =
-    sym (ap candidates_of c.in-Some.is) ∙ c.in_ok-all.ensures.candidates ∙ ap answers.candidates c.version_set_name.ensures in
+    sym (ap candidates_of c.in-Some.is) ∙ c.in_ok-all.ensures.candidates
+    ∙ ap answers.candidates c.version_set_name.ensures in
     answered c.sorted_among.result
-    (λ found is. is ∙ sorted_alike g.D.SolvableId.PartialEq.eq answers.order (answers.matches c.args.set) all.favored (answers.favored name)
+    (λ found is. is ∙ sorted_alike g.D.SolvableId.PartialEq.eq answers.order (answers.matches c.args.set) all.favored
+    (answers.favored name)
     all.candidates.items (answers.candidates name) favored listed) c.sorted_among.ensures
 
 pub returns-in-None : goal.returns-in-None
@@ -32,4 +34,5 @@ returns-in-None g c =
     made ∙ none_sorted g.D.SolvableId.PartialEq.eq answers.order (answers.matches c.args.set)
     (g.met.D.DependencyProvider.order_permutes c.args.provider.now) (answers.favored name) (answers.candidates name)
     (sym (ap favored_of c.in-None.is) ∙ c.in_ok-all.ensures.favored ∙ ap answers.favored c.version_set_name.ensures)
-    (sym (ap candidates_of c.in-None.is) ∙ c.in_ok-all.ensures.candidates ∙ ap answers.candidates c.version_set_name.ensures)
+    (sym (ap candidates_of c.in-None.is) ∙ c.in_ok-all.ensures.candidates
+    ∙ ap answers.candidates c.version_set_name.ensures)

@@ -9,8 +9,10 @@ use Rattle.solutions.proofs.offers.is_candidate_of_one.Goals as goal
 
 -- the provider's functions
 abbrev provided : (g : Over) → g.row.D.Denot → Provider g.row.D-NameId.Denot g.row.D-SolvableId.Denot
-provided g = gathered g.D.NameId.PartialEq.eq g.D.SolvableId.PartialEq.eq g.D.NameId.Slots.IdMap.is_too_large g.D.SolvableId.Slots.IdMap.is_too_large
-    g.D.SolvableId.Set.IdSet.is_too_large g.D.NameId.SolverId.are_many g.D.Interner.universe g.D.DependencyProvider.answers
+provided g = gathered g.D.NameId.PartialEq.eq g.D.SolvableId.PartialEq.eq g.D.NameId.Slots.IdMap.is_too_large
+    g.D.SolvableId.Slots.IdMap.is_too_large
+    g.D.SolvableId.Set.IdSet.is_too_large g.D.NameId.SolverId.are_many g.D.Interner.universe
+    g.D.DependencyProvider.answers
 
 pub loop-set-preserved : goal.loop-set-preserved
 loop-set-preserved g c =
@@ -19,7 +21,8 @@ loop-set-preserved g c =
     let i = c.loop-set.set-index in
     let set = get_or sets i (record { 0 = 0 }) in
     let more : c.in_ok-is_candidate.field-0 ≡ false = search rules in
-    list_any_more test sets i (record { 0 = 0 }) c.loop-set-test.true ∙ ap (λ b. b || test set) c.loop-set.invariant ∙ sym c.in_ok-is_candidate.ensures ∙ more
+    list_any_more test sets i (record { 0 = 0 }) c.loop-set-test.true ∙ ap (λ b. b || test set) c.loop-set.invariant
+    ∙ sym c.in_ok-is_candidate.ensures ∙ more
 
 pub returns-then-branch : goal.returns-then-branch
 returns-then-branch g c =

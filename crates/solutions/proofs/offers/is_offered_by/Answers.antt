@@ -9,28 +9,36 @@ use Rattle.solutions.proofs.offers.is_offered_by.Goals as goal
 
 -- the provider's functions
 abbrev provided : (g : Over) → g.row.D.Denot → Provider g.row.D-NameId.Denot g.row.D-SolvableId.Denot
-provided g = gathered g.D.NameId.PartialEq.eq g.D.SolvableId.PartialEq.eq g.D.NameId.Slots.IdMap.is_too_large g.D.SolvableId.Slots.IdMap.is_too_large
-    g.D.SolvableId.Set.IdSet.is_too_large g.D.NameId.SolverId.are_many g.D.Interner.universe g.D.DependencyProvider.answers
+provided g = gathered g.D.NameId.PartialEq.eq g.D.SolvableId.PartialEq.eq g.D.NameId.Slots.IdMap.is_too_large
+    g.D.SolvableId.Slots.IdMap.is_too_large
+    g.D.SolvableId.Set.IdSet.is_too_large g.D.NameId.SolverId.are_many g.D.Interner.universe
+    g.D.DependencyProvider.answers
 
 pub loop-requirement-preserved : goal.loop-requirement-preserved
 loop-requirement-preserved g c =
     let p = provided g c.args.selection.now.provider.now in
-    let has = is_kept g.D.SolvableId.PartialEq.eq (g.D.SolvableId.Set.IdSet.has c.args.selection.now.picked) c.args.selection.now.left_out in
+    let has = is_kept g.D.SolvableId.PartialEq.eq (g.D.SolvableId.Set.IdSet.has c.args.selection.now.picked)
+    c.args.selection.now.left_out in
     let no : c.in_ok-offers.field-0 ≡ false = search rules in
-    next_holds (λ r. Offers p has c.args.solvable r → ⊥) c.args.requirements.now c.loop-requirement.requirement-index c.requirement-item.result
+    next_holds (λ r. Offers p has c.args.solvable r → ⊥) c.args.requirements.now c.loop-requirement.requirement-index
+    c.requirement-item.result
     c.loop-requirement-test.true c.requirement-item.is (refuted no c.in_ok-offers.ensures) c.loop-requirement.invariant
 
 pub returns-then-branch : goal.returns-then-branch
 returns-then-branch g c =
     let p = provided g c.args.selection.now.provider.now in
-    let has = is_kept g.D.SolvableId.PartialEq.eq (g.D.SolvableId.Set.IdSet.has c.args.selection.now.picked) c.args.selection.now.left_out in
+    let has = is_kept g.D.SolvableId.PartialEq.eq (g.D.SolvableId.Set.IdSet.has c.args.selection.now.picked)
+    c.args.selection.now.left_out in
     let yes : c.in_ok-offers.field-0 ≡ true = search rules in
-    next_passes (Offers p has c.args.solvable) c.args.requirements.now c.loop-requirement.requirement-index c.requirement-item.result
+    next_passes (Offers p has c.args.solvable) c.args.requirements.now c.loop-requirement.requirement-index
+    c.requirement-item.result
     c.loop-requirement-test.true c.requirement-item.is (c.in_ok-offers.ensures.0 yes)
 
 pub returns : goal.returns
 returns g c =
     let p = provided g c.args.selection.now.provider.now in
-    let has = is_kept g.D.SolvableId.PartialEq.eq (g.D.SolvableId.Set.IdSet.has c.args.selection.now.picked) c.args.selection.now.left_out in
-    none_passes (Offers p has c.args.solvable) c.args.requirements.now c.loop-requirement.requirement-index c.loop-requirement-test.false
+    let has = is_kept g.D.SolvableId.PartialEq.eq (g.D.SolvableId.Set.IdSet.has c.args.selection.now.picked)
+    c.args.selection.now.left_out in
+    none_passes (Offers p has c.args.solvable) c.args.requirements.now c.loop-requirement.requirement-index
+    c.loop-requirement-test.false
     c.loop-requirement.invariant

@@ -13,6 +13,9 @@ filter_candidates-requires-clause-known g c =
 pub returns-in-Some-clause-ok : goal.returns-in-Some-clause-ok
 returns-in-Some-clause-ok g c =
     let answers = g.D.DependencyProvider.answers c.args.provider.now in
-    let list : c.deref.result.now ≡ answers.candidates ((g.D.Interner.universe c.args.provider.now).set_name c.args.set) =
-    c.deref.ensures.value ∙ sym (ap candidates_of c.in-Some.is) ∙ c.in_ok-all.ensures.candidates ∙ ap answers.candidates c.version_set_name.ensures in
-    answered c.filter_candidates.result (λ found is. is ∙ ap (filtered (answers.matches c.args.set) c.args.inverse) list) c.filter_candidates.ensures.ok
+    let list : c.deref.result.now ≡ answers.candidates
+    ((g.D.Interner.universe c.args.provider.now).set_name c.args.set) =
+    c.deref.ensures.value ∙ sym (ap candidates_of c.in-Some.is) ∙ c.in_ok-all.ensures.candidates
+    ∙ ap answers.candidates c.version_set_name.ensures in
+    answered c.filter_candidates.result (λ found is. is
+    ∙ ap (filtered (answers.matches c.args.set) c.args.inverse) list) c.filter_candidates.ensures.ok

@@ -7,5 +7,6 @@ use Rattle.solutions.proofs.ranking.ranks.Goals as goal
 
 pub returns : goal.returns
 returns g c =
-    answered c.ranks_by.result (λ ranks is. is ∙ ap (λ h. map (rank_by h) (alternatives_of c.args.wishes.now)) (fun_ext c.in_ok-selection.ensures.picked))
+    answered c.ranks_by.result (λ ranks is. is
+    ∙ ap (λ h. map (rank_by h) (alternatives_of c.args.wishes.now)) (fun_ext c.in_ok-selection.ensures.picked))
     c.ranks_by.ensures

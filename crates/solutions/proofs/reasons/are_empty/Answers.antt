@@ -11,8 +11,10 @@ use Rattle.solutions.proofs.reasons.are_empty.Goals as goal
 
 -- the provider's functions
 abbrev provided : (g : Over) → g.row.D.Denot → Provider g.row.D-NameId.Denot g.row.D-SolvableId.Denot
-provided g = gathered g.D.NameId.PartialEq.eq g.D.SolvableId.PartialEq.eq g.D.NameId.Slots.IdMap.is_too_large g.D.SolvableId.Slots.IdMap.is_too_large
-    g.D.SolvableId.Set.IdSet.is_too_large g.D.NameId.SolverId.are_many g.D.Interner.universe g.D.DependencyProvider.answers
+provided g = gathered g.D.NameId.PartialEq.eq g.D.SolvableId.PartialEq.eq g.D.NameId.Slots.IdMap.is_too_large
+    g.D.SolvableId.Slots.IdMap.is_too_large
+    g.D.SolvableId.Set.IdSet.is_too_large g.D.NameId.SolverId.are_many g.D.Interner.universe
+    g.D.DependencyProvider.answers
 
 pub loop-set-preserved : goal.loop-set-preserved
 loop-set-preserved g c =
@@ -20,10 +22,12 @@ loop-set-preserved g c =
     let sets = c.args.sets.now in
     let i = c.loop-set.set-index in
     let yes : c.in_ok-is_empty.field-0 ≡ true = search rules in
-    next_holds (λ set. matching p.universe p.answers set ≡ []) sets i (get_or sets i (record { 0 = 0 })) c.loop-set-test.true
+    next_holds (λ set. matching p.universe p.answers set ≡ []) sets i
+    (get_or sets i (record { 0 = 0 })) c.loop-set-test.true
     (own_default sets i (record { 0 = 0 }) c.loop-set-test.true) (c.in_ok-is_empty.ensures yes) c.loop-set.invariant
 
 pub returns : goal.returns
 returns g c = λ yes.
     let p = provided g c.args.provider.now in
-    subst (All (λ set. matching p.universe p.answers set ≡ [])) (take_all c.loop-set.set-index c.args.sets.now c.loop-set-test.false) c.loop-set.invariant
+    subst (All (λ set. matching p.universe p.answers set ≡ []))
+    (take_all c.loop-set.set-index c.args.sets.now c.loop-set-test.false) c.loop-set.invariant

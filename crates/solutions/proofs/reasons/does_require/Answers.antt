@@ -8,4 +8,5 @@ use Rattle.solutions.proofs.reasons.does_require.Goals as goal
 pub returns-in-Known : goal.returns-in-Known
 returns-in-Known g c = λ yes.
     subst (λ list. Contains list c.args.conditional)
-    (c.deref.ensures.value ∙ ap requirements_in (sym (ap needs_of c.in-Known.is) ∙ c.in_ok-needs.ensures.ok)) (c.is_listed.ensures yes)
+    (c.deref.ensures.value ∙ ap requirements_in (sym (ap needs_of c.in-Known.is) ∙ c.in_ok-needs.ensures.ok))
+    (c.is_listed.ensures yes)

@@ -8,8 +8,10 @@ use Rattle.solutions.proofs.reasons.is_lacking.Goals as goal
 
 -- the provider's functions
 abbrev provided : (g : Over) → g.row.D.Denot → Provider g.row.D-NameId.Denot g.row.D-SolvableId.Denot
-provided g = gathered g.D.NameId.PartialEq.eq g.D.SolvableId.PartialEq.eq g.D.NameId.Slots.IdMap.is_too_large g.D.SolvableId.Slots.IdMap.is_too_large
-    g.D.SolvableId.Set.IdSet.is_too_large g.D.NameId.SolverId.are_many g.D.Interner.universe g.D.DependencyProvider.answers
+provided g = gathered g.D.NameId.PartialEq.eq g.D.SolvableId.PartialEq.eq g.D.NameId.Slots.IdMap.is_too_large
+    g.D.SolvableId.Slots.IdMap.is_too_large
+    g.D.SolvableId.Set.IdSet.is_too_large g.D.NameId.SolverId.are_many g.D.Interner.universe
+    g.D.DependencyProvider.answers
 
 pub returns : goal.returns
 returns g c =
@@ -17,5 +19,8 @@ returns g c =
     let required : c.in_ok-is_required.field-0 ≡ true = search rules in
     let sets : c.as_slice.result.now ≡ sets_of p.universe c.args.conditional.requirement = search rules in
     answered c.are_empty.result
-    (λ answer empty yes. (c.in_ok-is_required.ensures required, subst (All (λ set. matching p.universe p.answers set ≡ [])) sets (empty yes)))
+    (λ answer empty yes. (
+      c.in_ok-is_required.ensures required,
+      subst (All (λ set. matching p.universe p.answers set ≡ [])) sets (empty yes),
+    ))
     c.are_empty.ensures

@@ -10,8 +10,10 @@ use Rattle.solutions.proofs.refuting.are_enough.Goals as goal
 
 -- the provider's functions
 abbrev provided : (g : Over) → g.row.D.Denot → Provider g.row.D-NameId.Denot g.row.D-SolvableId.Denot
-provided g = gathered g.D.NameId.PartialEq.eq g.D.SolvableId.PartialEq.eq g.D.NameId.Slots.IdMap.is_too_large g.D.SolvableId.Slots.IdMap.is_too_large
-    g.D.SolvableId.Set.IdSet.is_too_large g.D.NameId.SolverId.are_many g.D.Interner.universe g.D.DependencyProvider.answers
+provided g = gathered g.D.NameId.PartialEq.eq g.D.SolvableId.PartialEq.eq g.D.NameId.Slots.IdMap.is_too_large
+    g.D.SolvableId.Slots.IdMap.is_too_large
+    g.D.SolvableId.Set.IdSet.is_too_large g.D.NameId.SolverId.are_many g.D.Interner.universe
+    g.D.DependencyProvider.answers
 
 pub returns : goal.returns
 returns g c =
@@ -20,7 +22,10 @@ returns g c =
     let now = c.all.new.self.theory.clauses.items in
     let trail = c.all.new.self.trail.literals.items in
     answered c.all.result
-    (λ answer replayed. refuted_selections p (λ picked. All (IsMet p picked) c.args.reasons.now) clauses now trail answer c.in_ok-theory.ensures
-    (subst (λ first. Replayed first [] now trail answer) (ap (λ theory. theory.clauses.items) c.in_ok-replay.ensures.theory)
-    (subst (λ first. Replayed c.in_ok-replay.replay.theory.clauses.items first now trail answer) c.in_ok-replay.ensures.trail replayed)))
+    (λ answer replayed. refuted_selections p (λ picked. All (IsMet p picked) c.args.reasons.now) clauses now trail
+    answer c.in_ok-theory.ensures
+    (subst (λ first. Replayed first [] now trail answer) (ap
+    (λ theory. theory.clauses.items) c.in_ok-replay.ensures.theory)
+    (subst (λ first. Replayed c.in_ok-replay.replay.theory.clauses.items first now trail answer)
+    c.in_ok-replay.ensures.trail replayed)))
     c.all.ensures

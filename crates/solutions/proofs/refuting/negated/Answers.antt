@@ -12,4 +12,5 @@ loop-literal-preserved g c =
     let x = c.literal-item.result in
     let pushed : c.push.new.self.items ≡ c.loop-literal.negated.items ++ c.negated.result ∷ [] = search rules in
     pushed ∙ ap (λ l. c.loop-literal.negated.items ++ l ∷ []) (c.negated.ensures ∙ ap opposite c.literal-item.is)
-    ∙ ap (λ ls. ls ++ opposite (get_or xs i x) ∷ []) c.loop-literal.invariant ∙ sym (map_more opposite xs i x c.loop-literal-test.true)
+    ∙ ap (λ ls. ls ++ opposite (get_or xs i x) ∷ []) c.loop-literal.invariant
+    ∙ sym (map_more opposite xs i x c.loop-literal-test.true)

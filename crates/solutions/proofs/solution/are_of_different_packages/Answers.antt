@@ -25,7 +25,8 @@ returns-then-not-branch g c =
     let x = c.solvable-item.result in
     let had : g.D.NameId.Set.IdSet.has c.loop-solvable.names c.solvable_name.result ≡ true = search rules in
     let among : list_any (same (name x)) (map name (take i ss)) ≡ true =
-    sym (c.loop-solvable.invariant.kept (name x)) ∙ ap (g.D.NameId.Set.IdSet.has c.loop-solvable.names) (sym c.solvable_name.ensures) ∙ had in
+    sym (c.loop-solvable.invariant.kept (name x))
+    ∙ ap (g.D.NameId.Set.IdSet.has c.loop-solvable.names) (sym c.solvable_name.ensures) ∙ had in
     decides_false (λ both. repeated same g.met.D.NameId.Eq.laws.refl g.met.D.NameId.SameValue.same name ss i x
     c.loop-solvable-test.true c.solvable-item.is g.met.D.NameId.Eq.laws.symm among both.1)
 
@@ -44,14 +45,19 @@ loop-solvable-preserved g c =
     let is = c.solvable-item.is in
     let known : universe.knows_solvable x ≡ true = search rules in
     let new : has c.loop-solvable.names c.solvable_name.result ≡ false = search rules in
-    let more : map name (take (i + 1) ss) ≡ map name (take i ss) ++ name x ∷ [] = more_keys same reflexive equal name ss i x lt is in
+    let more : map name (take (i + 1) ss) ≡ map name (take i ss) ++ name x ∷ [] =
+    more_keys same reflexive equal name ss i x lt is in
     let update : IsUpdate (has c.loop-solvable.names) (name x) true (has c.insert.new.self) =
-    subst (λ n. IsUpdate (has c.loop-solvable.names) n true (has c.insert.new.self)) c.solvable_name.ensures c.in_ok-insert.ensures.ok in
+    subst (λ n. IsUpdate (has c.loop-solvable.names) n true (has c.insert.new.self)) c.solvable_name.ensures
+    c.in_ok-insert.ensures.ok in
     record {
       known = next_holds (λ s. universe.knows_solvable s ≡ true) ss i x lt is known c.loop-solvable.invariant.known;
-      kept = λ n. one_more same reflexive equal (has c.loop-solvable.names) (has c.insert.new.self) (map name (take i ss)) (name x)
+      kept = λ n. one_more same reflexive equal (has c.loop-solvable.names) (has c.insert.new.self)
+          (map name (take i ss)) (name x)
           c.loop-solvable.invariant.kept update n ∙ ap (list_any (same n)) (sym more);
-      distinct = subst (IsDistinct same) (sym more) (distinct_more same reflexive equal g.met.D.NameId.Eq.laws.symm (map name (take i ss)) (name x)
+      distinct = subst (IsDistinct same) (sym more) (distinct_more same reflexive equal g.met.D.NameId.Eq.laws.symm
+          (map name (take i ss)) (name x)
           c.loop-solvable.invariant.distinct
-          (sym (c.loop-solvable.invariant.kept (name x)) ∙ ap (has c.loop-solvable.names) (sym c.solvable_name.ensures) ∙ new));
+          (sym (c.loop-solvable.invariant.kept (name x))
+          ∙ ap (has c.loop-solvable.names) (sym c.solvable_name.ensures) ∙ new));
     }

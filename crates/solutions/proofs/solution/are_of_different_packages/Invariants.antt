@@ -9,6 +9,7 @@ invariant-loop-solvable g l =
     let done = take l.solvable-index l.solvables in
     record {
       known : All (λ s. universe.knows_solvable s ≡ true) done;
-      kept : (n : g.row.D-NameId.Denot) → g.D.NameId.Set.IdSet.has l.names n ≡ list_any (same n) (map universe.solvable_name done);
+      kept : (n : g.row.D-NameId.Denot) → g.D.NameId.Set.IdSet.has l.names n
+          ≡ list_any (same n) (map universe.solvable_name done);
       distinct : IsDistinct same (map universe.solvable_name done);
     }

@@ -16,8 +16,10 @@ use Rattle.solutions.proofs.spare.find_spare.Goals as goal
 
 -- the provider's functions
 abbrev provided : (g : Over) → g.row.D.Denot → Provider g.row.D-NameId.Denot g.row.D-SolvableId.Denot
-provided g = gathered g.D.NameId.PartialEq.eq g.D.SolvableId.PartialEq.eq g.D.NameId.Slots.IdMap.is_too_large g.D.SolvableId.Slots.IdMap.is_too_large
-    g.D.SolvableId.Set.IdSet.is_too_large g.D.NameId.SolverId.are_many g.D.Interner.universe g.D.DependencyProvider.answers
+provided g = gathered g.D.NameId.PartialEq.eq g.D.SolvableId.PartialEq.eq g.D.NameId.Slots.IdMap.is_too_large
+    g.D.SolvableId.Slots.IdMap.is_too_large
+    g.D.SolvableId.Set.IdSet.is_too_large g.D.NameId.SolverId.are_many g.D.Interner.universe
+    g.D.DependencyProvider.answers
 
 pub loop-place-init : goal.loop-place-init
 loop-place-init g c =
@@ -27,7 +29,8 @@ loop-place-init g c =
     let same = g.D.SolvableId.PartialEq.eq in
     let has = g.D.SolvableId.Set.IdSet.has selection.picked in
     record {
-      none = All-nil (λ s. IsSpare (provided g c.args.provider.now) request.requirements.now (alternatives_of request.wishes.now) picked s → ⊥);
+      none = All-nil (λ s. IsSpare (provided g c.args.provider.now) request.requirements.now
+          (alternatives_of request.wishes.now) picked s → ⊥);
       kept = subst (λ left_out. (s : g.row.D-SolvableId.Denot) → is_kept same has left_out s ≡ list_any (same s) picked)
           c.in_ok-selection.ensures.left_out c.in_ok-selection.ensures.picked;
       provider = c.in_ok-selection.ensures.provider;
@@ -35,7 +38,8 @@ loop-place-init g c =
 
 pub is_spare-requires-clause-rest : goal.is_spare-requires-clause-rest
 is_spare-requires-clause-rest g c =
-    others_kept g.D.SolvableId.PartialEq.eq g.met.D.SolvableId.SameValue.same (g.D.SolvableId.Set.IdSet.has c.loop-place.selection.picked) c.args.picked.now
+    others_kept g.D.SolvableId.PartialEq.eq g.met.D.SolvableId.SameValue.same
+    (g.D.SolvableId.Set.IdSet.has c.loop-place.selection.picked) c.args.picked.now
     c.index-picked-place.result c.loop-place.invariant.kept
 
 pub is_spare-requires-clause-ranks : goal.is_spare-requires-clause-ranks
@@ -49,10 +53,13 @@ loop-place-preserved g c =
     let picked = c.args.picked.now in
     let b = c.in_ok-is_spare.field-0 in
     let no : b ≡ false = search rules in
-    let Spare = λ (provider : g.row.D.Denot). IsSpare (provided g provider) request.requirements.now (alternatives_of request.wishes.now) picked in
-    let decides = subst (λ provider. Decides b (Spare provider c.index-picked-place.result)) c.loop-place.invariant.provider c.in_ok-is_spare.ensures in
+    let Spare = λ (provider : g.row.D.Denot). IsSpare (provided g provider) request.requirements.now
+    (alternatives_of request.wishes.now) picked in
+    let decides = subst (λ provider. Decides b (Spare provider c.index-picked-place.result))
+    c.loop-place.invariant.provider c.in_ok-is_spare.ensures in
     record {
-      none = next_holds (λ s. Spare c.args.provider.now s → ⊥) picked c.loop-place.place c.index-picked-place.result c.loop-place-test.true
+      none = next_holds (λ s. Spare c.args.provider.now s → ⊥) picked c.loop-place.place c.index-picked-place.result
+          c.loop-place-test.true
           c.index-picked-place.is (refuted no decides) c.loop-place.invariant.none;
       kept = c.loop-place.invariant.kept;
       provider = c.loop-place.invariant.provider;
@@ -65,13 +72,19 @@ returns-then-branch-clause-spare g c =
     let x = c.index-picked-place.result in
     let b = c.in_ok-is_spare.field-0 in
     let yes : b ≡ true = search rules in
-    let decides = subst (λ provider. Decides b (IsSpare (provided g provider) request.requirements.now (alternatives_of request.wishes.now) picked x))
-    c.loop-place.invariant.provider c.in_ok-is_spare.ensures in
-    (x, slice_get_read picked (length picked) c.loop-place.place x refl c.loop-place-test.true c.index-picked-place.is, decides.0 yes)
+    let decides = subst (λ provider. Decides b (IsSpare (provided g provider) request.requirements.now
+    (alternatives_of request.wishes.now) picked x))
+    c.loop-place.invariant.provider c.in_ok-is_spare.ensures in (
+      x,
+      slice_get_read picked (length picked) c.loop-place.place x refl c.loop-place-test.true
+          c.index-picked-place.is,
+      decides.0 yes,
+    )
 
 pub returns-clause-none : goal.returns-clause-none
 returns-clause-none g c =
     let p = provided g c.args.provider.now in
     let request = c.args.request.now in
-    λ e. subst (All (λ s. IsSpare p request.requirements.now (alternatives_of request.wishes.now) c.args.picked.now s → ⊥))
+    λ e. subst (All (λ s. IsSpare p request.requirements.now
+    (alternatives_of request.wishes.now) c.args.picked.now s → ⊥))
     (take_all c.loop-place.place c.args.picked.now c.loop-place-test.false) c.loop-place.invariant.none

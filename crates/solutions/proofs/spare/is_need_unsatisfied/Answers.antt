@@ -7,8 +7,10 @@ use Rattle.solutions.proofs.spare.is_need_unsatisfied.Goals as goal
 
 -- the provider's functions
 abbrev provided : (g : Over) → g.row.D.Denot → Provider g.row.D-NameId.Denot g.row.D-SolvableId.Denot
-provided g = gathered g.D.NameId.PartialEq.eq g.D.SolvableId.PartialEq.eq g.D.NameId.Slots.IdMap.is_too_large g.D.SolvableId.Slots.IdMap.is_too_large
-    g.D.SolvableId.Set.IdSet.is_too_large g.D.NameId.SolverId.are_many g.D.Interner.universe g.D.DependencyProvider.answers
+provided g = gathered g.D.NameId.PartialEq.eq g.D.SolvableId.PartialEq.eq g.D.NameId.Slots.IdMap.is_too_large
+    g.D.SolvableId.Slots.IdMap.is_too_large
+    g.D.SolvableId.Set.IdSet.is_too_large g.D.NameId.SolverId.are_many g.D.Interner.universe
+    g.D.DependencyProvider.answers
 
 pub returns : goal.returns
 returns g c =
@@ -17,5 +19,6 @@ returns g c =
     let parent = c.in-Some.parent.now in
     let yes : c.picks.result ≡ true = search rules in
     let b = c.in_ok-are_needs_satisfied.field-0 in
-    λ e. needs_fail (provided g selection.provider.now) c.args.choice.now.request.now.requirements.now has g.met.D.SolvableId.SameValue.same parent
+    λ e. needs_fail (provided g selection.provider.now) c.args.choice.now.request.now.requirements.now has
+    g.met.D.SolvableId.SameValue.same parent
     (sym c.picks.ensures ∙ yes) b (not_true b e) c.in_ok-are_needs_satisfied.ensures

@@ -11,8 +11,10 @@ use Rattle.solutions.proofs.spare.is_spare.Goals as goal
 
 -- the provider's functions
 abbrev provided : (g : Over) → g.row.D.Denot → Provider g.row.D-NameId.Denot g.row.D-SolvableId.Denot
-provided g = gathered g.D.NameId.PartialEq.eq g.D.SolvableId.PartialEq.eq g.D.NameId.Slots.IdMap.is_too_large g.D.SolvableId.Slots.IdMap.is_too_large
-    g.D.SolvableId.Set.IdSet.is_too_large g.D.NameId.SolverId.are_many g.D.Interner.universe g.D.DependencyProvider.answers
+provided g = gathered g.D.NameId.PartialEq.eq g.D.SolvableId.PartialEq.eq g.D.NameId.Slots.IdMap.is_too_large
+    g.D.SolvableId.Slots.IdMap.is_too_large
+    g.D.SolvableId.Set.IdSet.is_too_large g.D.NameId.SolverId.are_many g.D.Interner.universe
+    g.D.DependencyProvider.answers
 
 pub returns-then-branch : goal.returns-then-branch
 returns-then-branch g c =
@@ -26,9 +28,11 @@ returns-then-ne g c =
     let choice = c.args.choice.now in
     let wishes = alternatives_of choice.request.now.wishes.now in
     let rest = without p choice.picked.now c.args.solvable in
-    let others : c.in_ok-ranks.ranks.items ≡ map (rank p rest) wishes = c.in_ok-ranks.ensures ∙ ap (λ h. map (rank_by h) wishes) (fun_ext c.requires.rest) in
+    let others : c.in_ok-ranks.ranks.items ≡ map (rank p rest) wishes = c.in_ok-ranks.ensures
+    ∙ ap (λ h. map (rank_by h) wishes) (fun_ext c.requires.rest) in
     decides_false (λ both. refuted (not_true _ (sym c.ne.ensures ∙ c.if-ne.true))
-    (ranks_decide p choice.picked.now rest wishes choice.ranks.items c.in_ok-ranks.ranks.items c.requires.ranks others) both.1)
+    (ranks_decide p choice.picked.now rest wishes choice.ranks.items c.in_ok-ranks.ranks.items c.requires.ranks
+    others) both.1)
 
 pub returns : goal.returns
 returns g c =
@@ -36,9 +40,11 @@ returns g c =
     let choice = c.args.choice.now in
     let wishes = alternatives_of choice.request.now.wishes.now in
     let rest = without p choice.picked.now c.args.solvable in
-    let others : c.in_ok-ranks.ranks.items ≡ map (rank p rest) wishes = c.in_ok-ranks.ensures ∙ ap (λ h. map (rank_by h) wishes) (fun_ext c.requires.rest) in
+    let others : c.in_ok-ranks.ranks.items ≡ map (rank p rest) wishes = c.in_ok-ranks.ensures
+    ∙ ap (λ h. map (rank_by h) wishes) (fun_ext c.requires.rest) in
     let same : AreRanksSame p choice.picked.now rest wishes =
-    (ranks_decide p choice.picked.now rest wishes choice.ranks.items c.in_ok-ranks.ranks.items c.requires.ranks others).0
+    (ranks_decide p choice.picked.now rest wishes choice.ranks.items c.in_ok-ranks.ranks.items c.requires.ranks
+    others).0
     (not_false _ (sym c.ne.ensures ∙ c.if-ne.false)) in
     let is : c.deref.result.now ≡ rest = c.deref.ensures.value ∙ c.in_ok-rest.ensures in
     let Solution = IsSolution p choice.request.now.requirements.now in

@@ -8,4 +8,5 @@ others same left_out solvables = filter (λ s. not (same s left_out)) solvables
 
 abbrev pub invariant-loop-solvable : goal.invariant-loop-solvable
 invariant-loop-solvable g l =
-    l.rest.items ++ others g.S.PartialEq.eq l.left_out (drop l.solvable-index l.solvables) ≡ others g.S.PartialEq.eq l.left_out l.solvables
+    l.rest.items ++ others g.S.PartialEq.eq l.left_out (drop l.solvable-index l.solvables)
+    ≡ others g.S.PartialEq.eq l.left_out l.solvables

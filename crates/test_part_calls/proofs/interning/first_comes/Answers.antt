@@ -4,11 +4,13 @@ use Rattle.test_part_calls.proofs.interning.first_comes.Goals as goal
 
 pub returns-clause-within : goal.returns-clause-within
 returns-clause-within g c =
-    place_here g.K.Kind.is_one (g.K.Kind.kept c.args.pool.now) _ (g.K.Kind.entry c.args.first) _ c.in_ok-id.ensures.id c.in_ok-id.ensures.ok
+    place_here g.K.Kind.is_one (g.K.Kind.kept c.args.pool.now) _
+    (g.K.Kind.entry c.args.first) _ c.in_ok-id.ensures.id c.in_ok-id.ensures.ok
 
 pub returns-clause-here : goal.returns-clause-here
 returns-clause-here g c =
-    first_here g.K.Kind.is_one (g.K.Kind.kept c.args.pool.now) _ (g.K.Kind.entry c.args.first) _ c.in_ok-id.ensures.id c.in_ok-id.ensures.ok
+    first_here g.K.Kind.is_one (g.K.Kind.kept c.args.pool.now) _
+    (g.K.Kind.entry c.args.first) _ c.in_ok-id.ensures.id c.in_ok-id.ensures.ok
 
 pub returns-clause-again : goal.returns-clause-again
 returns-clause-again g c =

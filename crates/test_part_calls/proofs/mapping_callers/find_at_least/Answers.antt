@@ -12,8 +12,10 @@ loop-id-init g c =
     record {
       can = tt;
       ends = tt;
-      values = All-same (λ pair. value_at c.args.mapping.now (g.TId.DenseIndex.index_of pair.0) ≡ Some pair.1) _ _ begins c.iter-id-items.ensures.values;
-      small = λ all. each_value is_small g.TId.DenseIndex.id_at c.args.mapping.now (All-same is_small _ _ (sym listed) all);
+      values = All-same (λ pair. value_at c.args.mapping.now (g.TId.DenseIndex.index_of pair.0) ≡ Some pair.1) _ _
+          begins c.iter-id-items.ensures.values;
+      small = λ all. each_value is_small g.TId.DenseIndex.id_at c.args.mapping.now
+          (All-same is_small _ _ (sym listed) all);
     }
 
 pub loop-id-preserved : goal.loop-id-preserved
@@ -23,6 +25,7 @@ loop-id-preserved g c =
     record {
       can = tt;
       ends = tt;
-      values = All-rest (λ pair. value_at c.args.mapping.now (g.TId.DenseIndex.index_of pair.0) ≡ Some pair.1) _ _ _ step c.loop-id.invariant.values;
+      values = All-rest (λ pair. value_at c.args.mapping.now (g.TId.DenseIndex.index_of pair.0) ≡ Some pair.1) _ _ _
+          step c.loop-id.invariant.values;
       small = λ all. c.loop-id.invariant.small (All-same is_small _ _ step (All-cons is_small _ _ (omega arith) all));
     }

@@ -9,5 +9,6 @@ invariant-loop-id g l = record {
   can : (goal.iterator-loop-id g).can_next l.id-iterator;
   ends : (goal.iterator-loop-id g).is_finite l.id-iterator;
   values : All (λ pair. value_at l.mapping (g.TId.DenseIndex.index_of pair.0) ≡ Some pair.1) l.id-iterator;
-  small : All (λ pair. pair.1 < l.least) l.id-iterator → (index : ℕ) → ForSome (value_at l.mapping index) (λ value. value < l.least);
+  small : All (λ pair. pair.1 < l.least) l.id-iterator → (index : ℕ) →
+      ForSome (value_at l.mapping index) (λ value. value < l.least);
 }

@@ -14,20 +14,29 @@ module _ {V : Type 0} (same : V → V → Bool) (first second helper : V) (diffe
   second_tracked : with_variable same (of_one first) (Some helper) second ≡ of_two first second helper
   second_tracked = rw different refl
 
-  second_allowed : same helper first ≡ false → same helper second ≡ false → IsAllowed same (of_one first) (Some helper) second
-  second_allowed other other' = record { no_helper = refl; needed = rw different refl; fresh = ((rw other refl, refl), other') }
+  second_allowed : same helper first ≡ false → same helper second ≡ false →
+      IsAllowed same (of_one first) (Some helper) second
+  second_allowed other other' = record {
+    no_helper = refl;
+    needed = rw different refl;
+    fresh =
+        ((rw other refl, refl), other');
+  }
 
 pub returns : goal.returns
 returns g c =
     let same = g.V.PartialEq.eq in
-    let start = subst (IsEncoding same c.new-tracker.result.tracker) (sym c.new-clauses.ensures.items) c.new-tracker.ensures.at_most_one in
+    let start = subst (IsEncoding same c.new-tracker.result.tracker)
+    (sym c.new-clauses.ensures.items) c.new-tracker.ensures.at_most_one in
     let first = c.add.ensures.at_most_one start
-    (subst (λ t. IsAllowed same t None c.args.first) (sym c.new-tracker.ensures.empty) (record { no_helper = refl; needed = refl; fresh = tt })) in
+    (subst (λ t. IsAllowed same t None c.args.first) (sym c.new-tracker.ensures.empty)
+    (record { no_helper = refl; needed = refl; fresh = tt })) in
     let one : c.add.new.self.tracker ≡ of_one c.args.first =
     c.in_ok-add.ensures.ok ∙ ap (λ t. with_variable same t None c.args.first) c.new-tracker.ensures.empty in
     let second = c.add-2.ensures.at_most_one first
     (subst (λ t. IsAllowed same t (Some c.args.helper) c.args.second) (sym one)
-    (second_allowed same c.args.first c.args.second c.args.helper c.requires.different c.requires.other_than_first c.requires.other_than_second)) in
+    (second_allowed same c.args.first c.args.second c.args.helper c.requires.different c.requires.other_than_first
+    c.requires.other_than_second)) in
     let two : c.add-2.new.self.tracker ≡ of_two c.args.first c.args.second c.args.helper =
     c.in_ok-add-2.ensures.ok ∙ (ap (λ t. with_variable same t (Some c.args.helper) c.args.second) one
     ∙ second_tracked same c.args.first c.args.second c.args.helper c.requires.different) in

@@ -9,4 +9,5 @@ returns g c =
     g.D.NameId.Slots.IdMap.is_too_large g.D.SolvableId.Slots.IdMap.is_too_large
     g.D.SolvableId.Set.IdSet.is_too_large g.D.NameId.SolverId.are_many g.D.Interner.universe
     g.D.DependencyProvider.answers) g.D.NameId.Scores.IdMap.value_at in
-    one_list_each (store c.args.store.now) (store c.step.new.self) c.args.requirement (reply_of c.step.result) c.step.ensures.step c.requires
+    one_list_each (store c.args.store.now) (store c.step.new.self) c.args.requirement
+    (reply_of c.step.result) c.step.ensures.step c.requires

@@ -10,4 +10,5 @@ returns-clause-next g c = λ clause conflict is.
 
 pub returns-clause-known : goal.returns-clause-known
 returns-clause-known g c =
-    added_known (store_in c.step.ensures.was_sound) (store_in c.step.ensures.sound) (command_of c.args.command.now) (reply_of c.step.result) c.step.ensures.step
+    added_known (store_in c.step.ensures.was_sound) (store_in c.step.ensures.sound) (command_of c.args.command.now)
+    (reply_of c.step.result) c.step.ensures.step

@@ -10,8 +10,10 @@ use Rattle.test_store_calls.proofs.keeping_callers.load_again.Goals as goal
 
 -- the provider's functions
 abbrev given : (g : Over) → g.row.D.Denot → Provider g.row.D-NameId.Denot g.row.D-SolvableId.Denot
-given g = gathered g.D.NameId.PartialEq.eq g.D.SolvableId.PartialEq.eq g.D.NameId.Slots.IdMap.is_too_large g.D.SolvableId.Slots.IdMap.is_too_large
-    g.D.SolvableId.Set.IdSet.is_too_large g.D.NameId.SolverId.are_many g.D.Interner.universe g.D.DependencyProvider.answers
+given g = gathered g.D.NameId.PartialEq.eq g.D.SolvableId.PartialEq.eq g.D.NameId.Slots.IdMap.is_too_large
+    g.D.SolvableId.Slots.IdMap.is_too_large
+    g.D.SolvableId.Set.IdSet.is_too_large g.D.NameId.SolverId.are_many g.D.Interner.universe
+    g.D.DependencyProvider.answers
 
 -- its laws
 abbrev lawful : (g : Over) (p : g.row.D.Denot) → IsLawful (given g p)
@@ -31,10 +33,14 @@ returns-clause-same g c =
     let end = store_in c.step-3.ensures.sound in
     let before = reply_of c.in_ok-before.before in
     let after = reply_of c.in_ok-after.after in
-    let first = subst (λ reply. Step start (Load c.args.requirement) reply loaded) (sym c.in_ok-before.ensures.ok.0) c.step.ensures.step in
-    let third = subst (λ reply. Step between (Load c.args.requirement) reply end) (sym c.in_ok-after.ensures.ok.0) c.step-3.ensures.step in
-    same_loads start loaded between end c.args.requirement (command_of c.args.between.now) before (reply_of c.step-2.result) after
-    (lawful g c.args.store.now.provider) first c.step-2.ensures.step third c.in_ok-after.ensures.ok.1 c.in_ok-before.ensures.ok.1
+    let first = subst (λ reply. Step start (Load c.args.requirement) reply loaded)
+    (sym c.in_ok-before.ensures.ok.0) c.step.ensures.step in
+    let third = subst (λ reply. Step between (Load c.args.requirement) reply end)
+    (sym c.in_ok-after.ensures.ok.0) c.step-3.ensures.step in
+    same_loads start loaded between end c.args.requirement (command_of c.args.between.now) before
+    (reply_of c.step-2.result) after
+    (lawful g c.args.store.now.provider) first c.step-2.ensures.step third c.in_ok-after.ensures.ok.1
+    c.in_ok-before.ensures.ok.1
 
 pub returns-clause-candidates : goal.returns-clause-candidates
 returns-clause-candidates g c =
@@ -44,7 +50,10 @@ returns-clause-candidates g c =
     let end = store_in c.step-3.ensures.sound in
     let before = reply_of c.in_ok-before.before in
     let after = reply_of c.in_ok-after.after in
-    let first = subst (λ reply. Step start (Load c.args.requirement) reply loaded) (sym c.in_ok-before.ensures.ok.0) c.step.ensures.step in
-    let third = subst (λ reply. Step between (Load c.args.requirement) reply end) (sym c.in_ok-after.ensures.ok.0) c.step-3.ensures.step in
-    loads_candidates start loaded between end c.args.requirement (command_of c.args.between.now) before (reply_of c.step-2.result) after
+    let first = subst (λ reply. Step start (Load c.args.requirement) reply loaded)
+    (sym c.in_ok-before.ensures.ok.0) c.step.ensures.step in
+    let third = subst (λ reply. Step between (Load c.args.requirement) reply end)
+    (sym c.in_ok-after.ensures.ok.0) c.step-3.ensures.step in
+    loads_candidates start loaded between end c.args.requirement (command_of c.args.between.now) before
+    (reply_of c.step-2.result) after
     (lawful g c.args.store.now.provider) first c.step-2.ensures.step third c.in_ok-after.ensures.ok.1 c.requires

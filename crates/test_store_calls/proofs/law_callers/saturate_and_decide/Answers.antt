@@ -1,7 +1,8 @@
 use Rattle.std.proofs.Common.{subst}
 use Rattle.resolvo_store.specs.Command.{Saturate, Decide, reply_of}
 use Rattle.resolvo_store.specs.Step.{Step}
-use Rattle.resolvo_store.proofs.CallerLaws.{store_in, done_settles, done_unfalsified, decides_unfalsified, no_decision_is_model}
+use Rattle.resolvo_store.proofs.CallerLaws.{store_in, done_settles, done_unfalsified, decides_unfalsified}
+use Rattle.resolvo_store.proofs.CallerLaws.{no_decision_is_model}
 use Rattle.test_store_calls.proofs.SaturatingLaws.{saturate_not_falsified, saturate_not_undecided}
 use Rattle.test_store_calls.proofs.law_callers.saturate_and_decide.Goals as goal
 
@@ -10,7 +11,8 @@ returns-in-Done-clause-unfalsified g c =
     let old = store_in c.step.ensures.was_sound in
     let mid = store_in c.step-in-Done.ensures.was_sound in
     let new = store_in c.step-in-Done.ensures.sound in
-    let done = subst (λ reply. Step old (Saturate c.args.level) (reply_of reply) mid) c.in-Done.is c.step.ensures.step in
+    let done = subst (λ reply. Step old (Saturate c.args.level) (reply_of reply) mid) c.in-Done.is
+    c.step.ensures.step in
     decides_unfalsified mid new (reply_of c.step-in-Done.result)
     (done_unfalsified old mid c.args.level c.step-in-Done.ensures.was_sound done) c.step-in-Done.ensures.step
 
@@ -19,6 +21,7 @@ returns-in-Done-clause-model g c = λ may none.
     let old = store_in c.step.ensures.was_sound in
     let mid = store_in c.step-in-Done.ensures.was_sound in
     let new = store_in c.step-in-Done.ensures.sound in
-    let done = subst (λ reply. Step old (Saturate c.args.level) (reply_of reply) mid) c.in-Done.is c.step.ensures.step in
+    let done = subst (λ reply. Step old (Saturate c.args.level) (reply_of reply) mid) c.in-Done.is
+    c.step.ensures.step in
     no_decision_is_model mid new c.step-in-Done.ensures.sound (done_settles old mid c.args.level done)
     (subst (λ reply. Step mid Decide reply new) none c.step-in-Done.ensures.step) may

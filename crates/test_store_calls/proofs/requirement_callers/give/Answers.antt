@@ -10,8 +10,10 @@ use Rattle.test_store_calls.proofs.requirement_callers.give.Goals as goal
 
 -- the provider's functions
 abbrev given : (g : Over) → g.row.D.Denot → Provider g.row.D-NameId.Denot g.row.D-SolvableId.Denot
-given g = gathered g.D.NameId.PartialEq.eq g.D.SolvableId.PartialEq.eq g.D.NameId.Slots.IdMap.is_too_large g.D.SolvableId.Slots.IdMap.is_too_large
-    g.D.SolvableId.Set.IdSet.is_too_large g.D.NameId.SolverId.are_many g.D.Interner.universe g.D.DependencyProvider.answers
+given g = gathered g.D.NameId.PartialEq.eq g.D.SolvableId.PartialEq.eq g.D.NameId.Slots.IdMap.is_too_large
+    g.D.SolvableId.Slots.IdMap.is_too_large
+    g.D.SolvableId.Set.IdSet.is_too_large g.D.NameId.SolverId.are_many g.D.Interner.universe
+    g.D.DependencyProvider.answers
 
 pub returns-in-New-clause-given : goal.returns-in-New-clause-given
 returns-in-New-clause-given g c =
@@ -21,7 +23,8 @@ returns-in-New-clause-given g c =
     let v = c.args.variable in
     let value = c.args.value in
     let made = c.in_ok-assign.field-0 in
-    let step = subst (λ (d : Decision). Step old (Assign d.variable d.value d.derived_from c.args.level) (assignment made) new) c.new.ensures c.in_ok-assign.ensures.step in
+    let step = subst (λ (d : Decision). Step old (Assign d.variable d.value d.derived_from c.args.level)
+    (assignment made) new) c.new.ensures c.in_ok-assign.ensures.step in
     let told = given_value old new v value c.args.clause c.args.level made step in
     elim c.in-New.is [
       | inl is ↦ subst (λ m. values new v ≡ Some (cond (is_given m) value (not value))) is told
@@ -36,5 +39,7 @@ returns-in-Clash-clause-given g c =
     let v = c.args.variable in
     let value = c.args.value in
     let made = c.in_ok-assign.field-0 in
-    let step = subst (λ (d : Decision). Step old (Assign d.variable d.value d.derived_from c.args.level) (assignment made) new) c.new.ensures c.in_ok-assign.ensures.step in
-    subst (λ m. values new v ≡ Some (cond (is_given m) value (not value))) c.in-Clash.is (given_value old new v value c.args.clause c.args.level made step)
+    let step = subst (λ (d : Decision). Step old (Assign d.variable d.value d.derived_from c.args.level)
+    (assignment made) new) c.new.ensures c.in_ok-assign.ensures.step in
+    subst (λ m. values new v ≡ Some (cond (is_given m) value (not value))) c.in-Clash.is
+    (given_value old new v value c.args.clause c.args.level made step)

@@ -10,8 +10,10 @@ use Rattle.test_store_calls.proofs.searching.search.Goals as goal
 
 -- the provider's functions
 abbrev given : (g : Over) → g.row.D.Denot → Provider g.row.D-NameId.Denot g.row.D-SolvableId.Denot
-given g = gathered g.D.NameId.PartialEq.eq g.D.SolvableId.PartialEq.eq g.D.NameId.Slots.IdMap.is_too_large g.D.SolvableId.Slots.IdMap.is_too_large
-    g.D.SolvableId.Set.IdSet.is_too_large g.D.NameId.SolverId.are_many g.D.Interner.universe g.D.DependencyProvider.answers
+given g = gathered g.D.NameId.PartialEq.eq g.D.SolvableId.PartialEq.eq g.D.NameId.Slots.IdMap.is_too_large
+    g.D.SolvableId.Slots.IdMap.is_too_large
+    g.D.SolvableId.Set.IdSet.is_too_large g.D.NameId.SolverId.are_many g.D.Interner.universe
+    g.D.DependencyProvider.answers
 
 pub returns-in-Done : goal.returns-in-Done
 returns-in-Done g c =
@@ -25,4 +27,5 @@ returns-in-Falsified g c =
     let store = store_of (given g) g.D.NameId.Scores.IdMap.value_at in
     let old = store c.loop-level.store in
     let new = store c.decide.new.self in
-    falsified_told old new c.in-Falsified.clause (subst (λ found. Step old Decide (next found) new) c.in-Falsified.is c.in_ok-chosen.ensures.step)
+    falsified_told old new c.in-Falsified.clause
+    (subst (λ found. Step old Decide (next found) new) c.in-Falsified.is c.in_ok-chosen.ensures.step)

@@ -16,5 +16,6 @@ loop-i-preserved g c =
       | else-package-name w ↦ (
           let other : ((package_at ps c.loop-i.i).name == c.args.name) ≡ false = search rules in
           rw w.found-is
-          (named_other id_of c.loop-i.found.items c.args.name c.loop-i.i ps c.loop-i-test.true other c.loop-i.invariant))
+          (named_other id_of c.loop-i.found.items c.args.name c.loop-i.i ps c.loop-i-test.true other
+          c.loop-i.invariant))
     ]

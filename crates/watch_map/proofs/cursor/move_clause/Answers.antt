@@ -12,7 +12,8 @@ at_clause-requires-clause-watched g c =
     let place = c.args.place.now in
     let front = passed place c.args.map.now c.args.watches.now in
     let ahead = rest place c.args.map.now c.args.watches.now in
-    reached_watches c.relink.new.map c.relink.new.watches c.relink.ensures.lists.watched (literal_of place) place.previous
+    reached_watches c.relink.new.map c.relink.new.watches c.relink.ensures.lists.watched
+    (literal_of place) place.previous
     c.next_of-next.result front ahead
     (subst (λ o. IsReached (literal_of place) place.previous o c.relink.new.map c.relink.new.watches front ahead)
     (sym c.next_of-next.ensures) c.relink.ensures.reached)
@@ -22,7 +23,8 @@ returns-clause-list g c =
     let place = c.args.place.now in
     let front = passed place c.args.map.now c.args.watches.now in
     let ahead = rest place c.args.map.now c.args.watches.now in
-    (reached_cursor c.relink.new.map c.relink.new.watches c.relink.ensures.lists.watched (literal_of place) place.previous
+    (reached_cursor c.relink.new.map c.relink.new.watches c.relink.ensures.lists.watched
+    (literal_of place) place.previous
     c.next_of-next.result front ahead
     (subst (λ o. IsReached (literal_of place) place.previous o c.relink.new.map c.relink.new.watches front ahead)
     (sym c.next_of-next.ensures) c.relink.ensures.reached) c.at_clause.result c.at_clause.ensures).0
@@ -32,7 +34,8 @@ returns-clause-stands g c =
     let place = c.args.place.now in
     let front = passed place c.args.map.now c.args.watches.now in
     let ahead = rest place c.args.map.now c.args.watches.now in
-    (reached_cursor c.relink.new.map c.relink.new.watches c.relink.ensures.lists.watched (literal_of place) place.previous
+    (reached_cursor c.relink.new.map c.relink.new.watches c.relink.ensures.lists.watched
+    (literal_of place) place.previous
     c.next_of-next.result front ahead
     (subst (λ o. IsReached (literal_of place) place.previous o c.relink.new.map c.relink.new.watches front ahead)
     (sym c.next_of-next.ensures) c.relink.ensures.reached) c.at_clause.result c.at_clause.ensures).1

@@ -5,7 +5,8 @@ use Rattle.watch_map.proofs.cursor.relink.Goals as goal
 
 pub unlink-requires-clause-room : goal.unlink-requires-clause-room
 unlink-requires-clause-room g c =
-    let f = first_is c.args.place.now c.args.map.now c.args.watches.now c.requires.stands in slot_of_first c.args.map.now c.args.place.now.literal f.0 1 f.1
+    let f = first_is c.args.place.now c.args.map.now c.args.watches.now c.requires.stands in
+    slot_of_first c.args.map.now c.args.place.now.literal f.0 1 f.1
 
 pub put_first-next_of_new-requires : goal.put_first-next_of_new-requires
 put_first-next_of_new-requires g c =

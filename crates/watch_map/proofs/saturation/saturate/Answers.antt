@@ -93,7 +93,8 @@ mark_at_end-requires-clause-unwatched g c =
     c.requires.unwatched
 
 pub push-requires : goal.push-requires
-push-requires g c = subst (λ (m : Mark). IsBehind m c.mark_at_end.result) c.newest-from.ensures c.mark_at_end.ensures.behind
+push-requires g c = subst (λ (m : Mark). IsBehind m c.mark_at_end.result) c.newest-from.ensures
+    c.mark_at_end.ensures.behind
 
 pub returns-clause-ok : goal.returns-clause-ok
 returns-clause-ok g c =

@@ -7,7 +7,8 @@ use Rattle.watch_map.specs.Visits.{literals_at, AreAllSettled}
 use Rattle.watch_map.proofs.InputLaws.{given_within}
 use Rattle.watch_map.proofs.ImplicationLaws.{forced_none, forced_then, forced_longer, forced_same}
 use Rattle.watch_map.proofs.MarkLaws.{mark_begins, mark_unwatched, mark_saturated}
-use Rattle.watch_map.proofs.RoundLaws.{none_case, rearranged_then, keeps_then, place_kept, all_settled, as_many_decisions, round_smaller}
+use Rattle.watch_map.proofs.RoundLaws.{none_case, rearranged_then, keeps_then, place_kept, all_settled}
+use Rattle.watch_map.proofs.RoundLaws.{as_many_decisions, round_smaller}
 use Rattle.watch_map.proofs.UnwatchedLaws.{unwatched_alike, settled_if_listed, first_are_true}
 use Rattle.watch_map.proofs.saturation.saturate_from.Goals as goal
 
@@ -140,7 +141,8 @@ visit_all_unwatched-requires-clause-first g c =
     let ids = input.unwatched.now in
     let a = c.args.trail.now in
     let b = c.propagate.new.trail in
-    let implied = forced_then literals level a c.rounds.trail b c.rounds.invariant.implied c.propagate.ensures.implied in
+    let implied = forced_then literals level a c.rounds.trail b c.rounds.invariant.implied
+    c.propagate.ensures.implied in
     let rearranged = rearranged_then literals (watched_by c.args.watches.now) (watched_by c.rounds.watches)
     watched c.rounds.invariant.rearranged c.propagate.ensures.rearranged in
     let below = mark_unwatched literals watched b.entries c.args.from.now

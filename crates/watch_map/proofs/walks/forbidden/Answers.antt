@@ -6,7 +6,8 @@ use Rattle.watch_map.proofs.walks.forbidden.Goals as goal
 
 pub returns-clause-clause : goal.returns-clause-clause
 returns-clause-clause g c =
-    c.forbid_multiple.ensures.clause ∙ ap (λ l. ForbidMultipleInstances c.args.bit.0 l c.args.name) (c.new.ensures ∙ literal_of_sign c.args.bit.1 c.args.bit.2)
+    c.forbid_multiple.ensures.clause ∙ ap (λ l. ForbidMultipleInstances c.args.bit.0 l c.args.name) (c.new.ensures
+    ∙ literal_of_sign c.args.bit.1 c.args.bit.2)
 
 pub returns-clause-watches : goal.returns-clause-watches
 returns-clause-watches g c =

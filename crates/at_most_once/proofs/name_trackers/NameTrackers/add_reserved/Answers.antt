@@ -5,7 +5,8 @@ use Rattle.id_storage.specs.StoredAnswers.{place_of}
 use Rattle.id_storage.proofs.AnswerLemmas.{no_answer}
 use Rattle.at_most_once.specs.AtMostOne.{HasRoom}
 use Rattle.at_most_once.specs.NameTrackers.{tracker_of, with_tracked, HasRoomFor}
-use Rattle.at_most_once.proofs.TrackerLaws.{is_found, place_within, put_there, room_of_others, still_kept, variable_tracked}
+use Rattle.at_most_once.proofs.TrackerLaws.{is_found, place_within, put_there, room_of_others, still_kept}
+use Rattle.at_most_once.proofs.TrackerLaws.{variable_tracked}
 use Rattle.at_most_once.proofs.name_trackers.NameTrackers.add_reserved.Goals as goal
 
 pub index_mut-requires : goal.index_mut-requires
@@ -57,7 +58,8 @@ returns-clause-added g c =
     c.index_mut.result.now c.index_mut.ensures.value in
     ap (tracker_of same) (put_there same g.N.SolverId.is_id _ kept c.args.name place c.self.invariant at
     c.index_mut.result.now c.index_mut.ensures.value c.track.new.tracker)
-    ∙ (variable_tracked same g.met.N.Eq.laws g.met.N.SameValue.same kept c.args.name c.index_mut.result.now.1 c.track.new.tracker
+    ∙ (variable_tracked same g.met.N.Eq.laws g.met.N.SameValue.same kept c.args.name c.index_mut.result.now.1
+    c.track.new.tracker
     found c.args.variable c.args.helper c.track.ensures
     ∙ ap (λ now. with_tracked same c.args.name c.args.variable c.args.helper (tracker_of same now)) c.self.view_is)
 
@@ -73,5 +75,6 @@ returns-clause-keeps g c = λ other differs with_helper h.
     subst (λ now. HasRoomFor same now other with_helper)
     (sym (put_there same g.N.SolverId.is_id _ kept c.args.name place c.self.invariant at
     c.index_mut.result.now c.index_mut.ensures.value c.track.new.tracker))
-    (room_of_others same g.met.N.Eq.laws g.met.N.SameValue.same kept c.args.name c.index_mut.result.now.1 c.track.new.tracker
+    (room_of_others same g.met.N.Eq.laws g.met.N.SameValue.same kept c.args.name c.index_mut.result.now.1
+    c.track.new.tracker
     found other differs with_helper (subst (λ old. HasRoomFor same old other with_helper) (sym c.self.view_is) h))

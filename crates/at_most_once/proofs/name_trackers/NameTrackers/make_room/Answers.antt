@@ -4,7 +4,8 @@ use Rattle.std.specs.Map.{lookup}
 use Rattle.id_storage.specs.StoredAnswers.{place_of}
 use Rattle.at_most_once.specs.AtMostOne.{HasRoom}
 use Rattle.at_most_once.specs.NameTrackers.{tracker_of, HasRoomFor}
-use Rattle.at_most_once.proofs.TrackerLaws.{is_found, place_within, put_there, room_kept, still_found, still_kept, tracker_kept}
+use Rattle.at_most_once.proofs.TrackerLaws.{is_found, place_within, put_there, room_kept, still_found, still_kept}
+use Rattle.at_most_once.proofs.TrackerLaws.{tracker_kept}
 use Rattle.at_most_once.proofs.name_trackers.NameTrackers.make_room.Goals as goal
 
 pub index_mut-requires : goal.index_mut-requires
@@ -33,7 +34,8 @@ returns-clause-same g c =
     c.index_mut.result.now c.index_mut.ensures.value in
     ap (tracker_of same) (put_there same g.N.SolverId.is_id _ kept c.args.name place c.self.invariant at
     c.index_mut.result.now c.index_mut.ensures.value c.make_room.new.self)
-    ∙ (tracker_kept same g.met.N.Eq.laws g.met.N.SameValue.same kept c.args.name c.index_mut.result.now.1 c.make_room.new.self
+    ∙ (tracker_kept same g.met.N.Eq.laws g.met.N.SameValue.same kept c.args.name c.index_mut.result.now.1
+    c.make_room.new.self
     found c.make_room.ensures.same
     ∙ (ap (tracker_of same) c.self.view_is ∙ c.in_ok-place.ensures.same))
 
@@ -45,10 +47,12 @@ returns-clause-room g c =
     let place = c.in_ok-place.place in
     let found = is_found same g.N.SolverId.is_id _ kept c.args.name place c.self.invariant at
     c.index_mut.result.now c.index_mut.ensures.value in
-    let now = ap (lookup (same c.args.name)) (put_there same g.N.SolverId.is_id _ kept c.args.name place c.self.invariant at
+    let now = ap (lookup (same c.args.name))
+    (put_there same g.N.SolverId.is_id _ kept c.args.name place c.self.invariant at
     c.index_mut.result.now c.index_mut.ensures.value c.make_room.new.self)
     ∙ still_found same g.met.N.Eq.laws kept c.args.name c.make_room.new.self (ap is_some found) in
-    subst (λ o. OnOk c.make_room.result (MatchOption o ⊥ (λ t. HasRoom t c.args.with_helper))) (sym now) c.make_room.ensures.room
+    subst (λ o. OnOk c.make_room.result (MatchOption o ⊥ (λ t. HasRoom t c.args.with_helper)))
+    (sym now) c.make_room.ensures.room
 
 pub returns-clause-succeeds : goal.returns-clause-succeeds
 returns-clause-succeeds g c = λ h.
@@ -58,7 +62,8 @@ returns-clause-succeeds g c = λ h.
     let found = is_found same g.N.SolverId.is_id _ kept c.args.name c.in_ok-place.place c.self.invariant at
     c.index_mut.result.now c.index_mut.ensures.value in
     c.make_room.ensures.succeeds (subst (λ o. MatchOption o ⊥ (λ t. HasRoom t c.args.with_helper))
-    (ap (lookup (same c.args.name)) (sym c.self.view_is) ∙ found) (c.in_ok-place.ensures.keeps c.args.name c.args.with_helper h))
+    (ap (lookup (same c.args.name)) (sym c.self.view_is) ∙ found)
+    (c.in_ok-place.ensures.keeps c.args.name c.args.with_helper h))
 
 pub returns-clause-keeps : goal.returns-clause-keeps
 returns-clause-keeps g c = λ other with_helper h.
@@ -71,6 +76,8 @@ returns-clause-keeps g c = λ other with_helper h.
     subst (λ now. HasRoomFor same now other with_helper)
     (sym (put_there same g.N.SolverId.is_id _ kept c.args.name place c.self.invariant at
     c.index_mut.result.now c.index_mut.ensures.value c.make_room.new.self))
-    (room_kept same g.met.N.Eq.laws g.met.N.SameValue.same kept c.args.name c.index_mut.result.now.1 c.make_room.new.self
+    (room_kept same g.met.N.Eq.laws g.met.N.SameValue.same kept c.args.name c.index_mut.result.now.1
+    c.make_room.new.self
     found c.make_room.ensures.keeps other with_helper
-    (subst (λ old. HasRoomFor same old other with_helper) (sym c.self.view_is) (c.in_ok-place.ensures.keeps other with_helper h)))
+    (subst (λ old. HasRoomFor same old other with_helper) (sym c.self.view_is)
+    (c.in_ok-place.ensures.keeps other with_helper h)))

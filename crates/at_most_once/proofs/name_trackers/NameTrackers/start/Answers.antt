@@ -13,21 +13,27 @@ returns-then-place-clause-refused g c =
     let kept = c.self.inside.list.items in
     let none : lookup (same c.args.name) kept ≡ None = ap (lookup (same c.args.name)) c.self.view_is ∙ c.requires in
     let size : c.len-place.result ≡ length kept = c.len-place.ensures ∙ c.self.inside.list.ok.0 in
-    subst (λ now. IsTrue (lacks_tracker (g.N.Slots.IdMap.is_too_large c.args.name) g.N.SolverId.are_many (tracker_of same now c.args.name)))
+    subst (λ now. IsTrue (lacks_tracker (g.N.Slots.IdMap.is_too_large c.args.name) g.N.SolverId.are_many
+    (tracker_of same now c.args.name)))
     c.self.view_is
-    (too_many (g.N.Slots.IdMap.is_too_large c.args.name) g.N.SolverId.are_many (length kept) (tracker_of same kept c.args.name)
-    (fewer_kept same g.met.N.Eq.laws g.N.SolverId.is_id g.N.SolverId.are_many g.met.N.SolverId.few (2 ^ 32) _ kept c.args.name
+    (too_many (g.N.Slots.IdMap.is_too_large c.args.name) g.N.SolverId.are_many (length kept)
+    (tracker_of same kept c.args.name)
+    (fewer_kept same g.met.N.Eq.laws g.N.SolverId.is_id g.N.SolverId.are_many g.met.N.SolverId.few
+    (2 ^ 32) _ kept c.args.name
     c.self.invariant c.attest.ensures none)
     (omega (arith, size, c.if-place.true)) (tracker_missing same kept c.args.name (ap is_some none)))
 
 pub invariant_of-self : goal.invariant_of-self
 invariant_of-self g c =
-    AreStored-same g.N.PartialEq.eq g.N.SolverId.is_id (2 ^ 32) _ _ c.self.inside.list.items c.make_room.ensures.same c.self.invariant
+    AreStored-same g.N.PartialEq.eq g.N.SolverId.is_id (2 ^ 32) _ _ c.self.inside.list.items c.make_room.ensures.same
+    c.self.invariant
 
 pub invariant_of-self-in_err-reserve : goal.invariant_of-self-in_err-reserve
 invariant_of-self-in_err-reserve g c =
-    subst (AreStored g.N.PartialEq.eq g.N.SolverId.is_id (2 ^ 32) (g.N.Slots.IdMap.value_at c.make_room.new.self)) (sym c.reserve.ensures.items)
-    (AreStored-same g.N.PartialEq.eq g.N.SolverId.is_id (2 ^ 32) _ _ c.self.inside.list.items c.make_room.ensures.same c.self.invariant)
+    subst (AreStored g.N.PartialEq.eq g.N.SolverId.is_id (2 ^ 32) (g.N.Slots.IdMap.value_at c.make_room.new.self))
+    (sym c.reserve.ensures.items)
+    (AreStored-same g.N.PartialEq.eq g.N.SolverId.is_id (2 ^ 32) _ _ c.self.inside.list.items
+    c.make_room.ensures.same c.self.invariant)
 
 pub invariant_of-self-2 : goal.invariant_of-self-2
 invariant_of-self-2 g c =
@@ -40,7 +46,11 @@ invariant_of-self-2 g c =
     (sym (c.push_reserved.ensures.items ∙ ap (λ l. l ++ (c.args.name, c.new.result) ∷ []) c.reserve.ensures.items))
     (AreStored-push same g.met.N.Eq.laws g.met.N.SameValue.same g.N.SolverId.is_id (2 ^ 32) c.len-place.result
     _ _ _ kept c.args.name c.new.result size below
-    c.self.invariant c.make_room.ensures.same none c.attest.ensures (c.put.ensures.put.0 ∙ c.new-2.ensures, c.put.ensures.put.1))
+    c.self.invariant c.make_room.ensures.same none c.attest.ensures (
+      c.put.ensures.put.0
+          ∙ c.new-2.ensures,
+      c.put.ensures.put.1,
+    ))
 
 pub returns-clause-same : goal.returns-clause-same
 returns-clause-same g c =

@@ -23,7 +23,8 @@ returns-in-Some-clause-some g c =
     sym (c.self.invariant.agrees c.args.name) ∙ (sym c.get.ensures ∙ (sym c.number.ensures ∙ c.in-Some.is)) in
     subst (λ now. tracker_of same now c.args.name ≡ c.index.result.now.1.tracker) c.self.view_is
     (tracker_found same kept c.args.name (Some c.index.result.now.1)
-    (is_found same g.N.SolverId.is_id _ kept c.args.name c.in-Some.place c.self.invariant at c.index.result.now c.index.ensures))
+    (is_found same g.N.SolverId.is_id _ kept c.args.name c.in-Some.place c.self.invariant at c.index.result.now
+    c.index.ensures))
 
 pub returns-in-None-clause-none : goal.returns-in-None-clause-none
 returns-in-None-clause-none g c =

@@ -18,7 +18,8 @@ returns-clause-represents g c s represents =
     let same : length joined.new.groups.items ≡ length gs = sym joined.new.groups.ok.0
     ∙ (joined.ensures.len ∙ f.groups.ok.0) in
     let room = f.falsified.has_room && fit_three (length ms) f.members.cap in
-    let shows : Represents (counters_in ps ls ms gs firsts room) s = subst (λ v. Represents v s) (sym c.self.view_is) represents in (
+    let shows : Represents (counters_in ps ls ms gs firsts room) s =
+    subst (λ v. Represents v s) (sym c.self.view_is) represents in (
       is ∙ clauses_shown ps ls ms gs firsts room s shows,
       shows_clause ps ls ms joined.new.members.items gs joined.new.groups.items firsts
           c.add-clause.new.self.firsts room _ s c.args.groups.now

@@ -26,11 +26,14 @@ returns-clause-ok g c s represents says =
     let list = c.args.literals.now in
     let n = c.len-group.result in
     let is : n ≡ length gs = c.len-group.ensures ∙ f.groups.ok.0 in
-    let shows : Represents (counters_in ps ls ms gs firsts room) s = subst (λ v. Represents v s) (sym c.self.view_is) represents in
-    let lists : (i h : ℕ) → count h (numbers_at placed.new.places.items (standing_at placed.new.literals.items i).groups)
+    let shows : Represents (counters_in ps ls ms gs firsts room) s =
+    subst (λ v. Represents v s) (sym c.self.view_is) represents in
+    let lists : (i h : ℕ) → count h (numbers_at placed.new.places.items
+    (standing_at placed.new.literals.items i).groups)
     ≡ count h (numbers_at ps (standing_at ls i).groups) + cond (eqb n h) (once i list) 0 =
     λ i h. placed.ensures.lists i h ∙ ap (λ m. m + cond (eqb n h) (once i list) 0)
-    (moved (λ x (y : Standing). count h (numbers_at x y.groups) ≡ count h (numbers_at ps (standing_at ls i).groups)) ps rp
+    (moved (λ x (y : Standing). count h (numbers_at x y.groups) ≡ count h (numbers_at ps (standing_at ls i).groups))
+    ps rp
     (standing_at ls i) (standing_at pl i)
     c.in_ok-reserve.ensures.items (c.in_ok-pad.ensures.same i) refl) in
     let flagged : (is_false : ℕ → Bool) → AreFlagged ps ls is_false → AreFlagged rp pl is_false =

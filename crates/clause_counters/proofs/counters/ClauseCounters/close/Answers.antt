@@ -21,7 +21,8 @@ returns-then-at-eq0 g c =
     f.literals.ok.0 in
     subst (λ (x : Standing). IsSameButRoom (with_flag true i c.args.self.now)
     (counters_in places (set ls i (record x { is_false = true })) members groups f.falsified.firsts room)) (sym at)
-    (subst (λ v. IsSameButRoom (with_flag true i v) (counters_in places (set ls i (record (standing_at ls i) { is_false = true }))
+    (subst (λ v. IsSameButRoom (with_flag true i v) (counters_in places
+    (set ls i (record (standing_at ls i) { is_false = true }))
     members groups f.falsified.firsts room)) c.self.view_is
     (told_kept places ls members groups groups f.falsified.firsts f.falsified.firsts room room true i refl refl))
 
@@ -39,7 +40,8 @@ returns g c =
     subst (λ (x : Standing). IsSameButRoom (with_flag true i c.args.self.now)
     (counters_in places (set ls i (record x { is_false = true })) members
     c.lower_groups.new.groups.items c.lower_groups.new.falsified.firsts room)) (sym at)
-    (subst (λ v. IsSameButRoom (with_flag true i v) (counters_in places (set ls i (record (standing_at ls i) { is_false = true }))
+    (subst (λ v. IsSameButRoom (with_flag true i v) (counters_in places
+    (set ls i (record (standing_at ls i) { is_false = true }))
     members
     c.lower_groups.new.groups.items c.lower_groups.new.falsified.firsts room)) c.self.view_is
     (told_kept places ls members c.self.inside.groups.items c.lower_groups.new.groups.items

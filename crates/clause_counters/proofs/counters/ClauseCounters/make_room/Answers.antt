@@ -13,4 +13,5 @@ returns-clause-represents g c s represents =
     heap.firsts
     (f.falsified.has_room && fit_three (length f.members.items) f.members.cap)
     (heap.has_room && fit_three (length new.items) new.cap) s
-    c.in_ok-reserve.ensures.items c.make_room.ensures.firsts (subst (λ v. Represents v s) (sym c.self.view_is) represents)
+    c.in_ok-reserve.ensures.items c.make_room.ensures.firsts
+    (subst (λ v. Represents v s) (sym c.self.view_is) represents)

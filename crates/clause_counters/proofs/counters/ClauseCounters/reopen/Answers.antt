@@ -23,7 +23,8 @@ returns-then-at-eq0 g c =
     f.literals.ok.0 in
     subst (λ (x : Standing). IsSameButRoom (with_flag false i c.args.self.now)
     (counters_in places (set ls i (record x { is_false = false })) members groups f.falsified.firsts room)) (sym at)
-    (subst (λ v. IsSameButRoom (with_flag false i v) (counters_in places (set ls i (record (standing_at ls i) { is_false = false }))
+    (subst (λ v. IsSameButRoom (with_flag false i v) (counters_in places
+    (set ls i (record (standing_at ls i) { is_false = false }))
     members groups f.falsified.firsts room)) c.self.view_is
     (told_kept places ls members groups groups f.falsified.firsts f.falsified.firsts room room false i refl refl))
 
@@ -41,7 +42,8 @@ returns g c =
     subst (λ (x : Standing). IsSameButRoom (with_flag false i c.args.self.now)
     (counters_in places (set ls i (record x { is_false = false })) members
     c.raise_groups.new.groups.items c.raise_groups.new.falsified.firsts room)) (sym at)
-    (subst (λ v. IsSameButRoom (with_flag false i v) (counters_in places (set ls i (record (standing_at ls i) { is_false = false }))
+    (subst (λ v. IsSameButRoom (with_flag false i v) (counters_in places
+    (set ls i (record (standing_at ls i) { is_false = false }))
     members
     c.raise_groups.new.groups.items c.raise_groups.new.falsified.firsts room)) c.self.view_is
     (told_kept places ls members c.self.inside.groups.items c.raise_groups.new.groups.items

@@ -4,4 +4,5 @@ use Rattle.clauses.proofs.literal_walk.LiteralWalk.find.Goals as goal
 
 pub returns-clause-tested : goal.returns-clause-tested
 returns-clause-tested g c = λ passes says.
-    find-first (goal.F-post g c.args.test) (literals_in c.args.self.now) c.find_in_order.result c.find_in_order.ensures passes says
+    find-first (goal.F-post g c.args.test) (literals_in c.args.self.now) c.find_in_order.result
+    c.find_in_order.ensures passes says

@@ -10,7 +10,8 @@ returns-in-Some-find_stored g c =
     let walk = c.args.self.now in
     let lists = flat_map (map Pos) (map (λ l. l.items) walk.lists.now) in
     let others = map Pos walk.candidates.now ++ lists in
-    first-rest answers (option_to_list walk.first) (option_to_list walk.second ++ (walk.stored.now ++ others)) _ c.in_default.ensures
+    first-rest answers (option_to_list walk.first) (option_to_list walk.second ++ (walk.stored.now ++ others)) _
+    c.in_default.ensures
     (first-rest answers (option_to_list walk.second) (walk.stored.now ++ others) _ c.in_default-find_own.ensures
     (first-front answers walk.stored.now others _ c.in-Some-find_stored.ensures))
 
@@ -20,7 +21,8 @@ returns-in-Some-find_candidate g c =
     let walk = c.args.self.now in
     let lists = flat_map (map Pos) (map (λ l. l.items) walk.lists.now) in
     let others = map Pos walk.candidates.now ++ lists in
-    first-rest answers (option_to_list walk.first) (option_to_list walk.second ++ (walk.stored.now ++ others)) _ c.in_default.ensures
+    first-rest answers (option_to_list walk.first) (option_to_list walk.second ++ (walk.stored.now ++ others)) _
+    c.in_default.ensures
     (first-rest answers (option_to_list walk.second) (walk.stored.now ++ others) _ c.in_default-find_own.ensures
     (first-rest answers walk.stored.now others _ c.in_default-find_stored.ensures
     (first-front answers (map Pos walk.candidates.now) lists _ c.in-Some-find_candidate.ensures)))
@@ -31,7 +33,9 @@ returns g c =
     let walk = c.args.self.now in
     let lists = flat_map (map Pos) (map (λ l. l.items) walk.lists.now) in
     let others = map Pos walk.candidates.now ++ lists in
-    first-rest answers (option_to_list walk.first) (option_to_list walk.second ++ (walk.stored.now ++ others)) _ c.in_default.ensures
+    first-rest answers (option_to_list walk.first) (option_to_list walk.second ++ (walk.stored.now ++ others)) _
+    c.in_default.ensures
     (first-rest answers (option_to_list walk.second) (walk.stored.now ++ others) _ c.in_default-find_own.ensures
     (first-rest answers walk.stored.now others _ c.in_default-find_stored.ensures
-    (first-rest answers (map Pos walk.candidates.now) lists _ c.in_default-find_candidate.ensures c.find_in_lists.ensures)))
+    (first-rest answers (map Pos walk.candidates.now) lists _ c.in_default-find_candidate.ensures
+    c.find_in_lists.ensures)))

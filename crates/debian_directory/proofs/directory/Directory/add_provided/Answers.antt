@@ -14,15 +14,18 @@ loop-part-preserved c =
     record {
       in_step = done.in_step;
       kept = λ name place h. done.kept name place (c.loop-part.invariant.kept name place h);
-      added = λ name h. elim (list_any-push (λ part. has_name name (relation_of part.now)) c.loop-part.yielded c.in-Some.part h) [
-        | inl e ↦ done.kept name c.args.place (c.loop-part.invariant.added name e)
-        | inr e ↦ done.added name e
-      ];
+      added = λ name h. elim (list_any-push (λ part. has_name name (relation_of part.now)) c.loop-part.yielded
+          c.in-Some.part h) [
+            | inl e ↦ done.kept name c.args.place (c.loop-part.invariant.added name e)
+            | inr e ↦ done.added name e
+          ];
     }
 
 pub returns-clause-added : goal.returns-clause-added
 returns-clause-added c =
-    let whole = YieldsList-end (YieldsList-from_slice_split _ (λ b. b == 44) c.args.provides.now (cc) (cc) (cc) (λ x b q k. search (rules, tests))) c.loop-part.yielded _ c.loop-part.yielded_by _ _ c.in-None.is c.next.ensures.steps in
+    let whole = YieldsList-end (YieldsList-from_slice_split _ (λ b. b == 44) c.args.provides.now (cc) (cc) (cc)
+    (λ x b q k. search (rules, tests))) c.loop-part.yielded _ c.loop-part.yielded_by _ _ c.in-None.is
+    c.next.ensures.steps in
     λ name h. c.loop-part.invariant.added name
     (sym (list_any-map (λ part. has_name name (relation_of part)) (λ y. y.now) c.loop-part.yielded)
     ∙ ap (list_any (λ part. has_name name (relation_of part))) whole.0 ∙ h)

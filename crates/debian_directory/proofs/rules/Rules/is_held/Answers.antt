@@ -17,5 +17,8 @@ returns c =
     let name = plain_name c.args.name in
     let test = is_held_as (plain_request own.request.now) packages name in
     let places = places_of own.directory.now name.name in
-    any_from_yields_List (any_at test packages) _ _ c.any.result c.any.ensures.ran (YieldsList-from_slice places (cc)) (λ x b q k. search (rules, tests))
-    ∙ list_any-places test packages places (λ place p at e. placed_by_name packages own.directory.now own.of_packages place p at name.name (and_parts _ _ (and_parts _ _ e).0).0)
+    any_from_yields_List (any_at test packages) _ _ c.any.result c.any.ensures.ran
+    (YieldsList-from_slice places (cc)) (λ x b q k. search (rules, tests))
+    ∙ list_any-places test packages places
+    (λ place p at e. placed_by_name packages own.directory.now own.of_packages place p at name.name
+    (and_parts _ _ (and_parts _ _ e).0).0)

@@ -9,6 +9,9 @@ use Rattle.debian_directory.proofs.together.Together.are_met.Goals as goal
 
 pub returns : goal.returns
 returns c =
-    all_from_yields_List (is_group_met c.args.self.now.native.now (map plain_package c.args.self.now.packages.now) (plain_package c.args.one.now)) _ _ _ c.all.ensures.ran
-    (YieldsList-from_filter _ (λ part. not (is_blank part)) (YieldsList-from_slice_split _ (λ b. b == 44) c.args.field.now (cc) (cc) (cc) (λ x b q k. search (rules, tests))) c.filter.ensures.closure (λ x b q k. search (rules, tests)))
+    all_from_yields_List (is_group_met c.args.self.now.native.now (map plain_package c.args.self.now.packages.now)
+    (plain_package c.args.one.now)) _ _ _ c.all.ensures.ran
+    (YieldsList-from_filter _ (λ part. not (is_blank part))
+    (YieldsList-from_slice_split _ (λ b. b == 44) c.args.field.now (cc) (cc) (cc)
+    (λ x b q k. search (rules, tests))) c.filter.ensures.closure (λ x b q k. search (rules, tests)))
     (λ x b q k. search (rules, tests))

@@ -12,6 +12,7 @@ returns-then-stand_together c =
     let own = c.args.self.now in
     let packages = map plain_package own.packages.now in
     let test = is_served own.native.now packages in
-    all_from_yields_List (λ q. test (plain_package q)) _ _ c.all.result c.all.ensures.ran (YieldsList-from_slice own.packages.now cc) (λ x b q k. search (rules, tests))
+    all_from_yields_List (λ q. test (plain_package q)) _ _ c.all.result c.all.ensures.ran
+    (YieldsList-from_slice own.packages.now cc) (λ x b q k. search (rules, tests))
     ∙ sym (list_all-map test plain_package own.packages.now)
     ∙ ap (λ b. b && list_all test packages) (sym (sym c.stand_together.ensures ∙ c.if-stand_together.true))

@@ -6,4 +6,5 @@ use Rattle.debian_scenario.proofs.stanza.Stanza.value.Goals as goal
 
 pub returns : goal.returns
 returns c =
-    rw c.place.ensures.value (sym (get_or-map (option_map {T = Bor (List ℕ)} (λ v. v.now)) c.args.self.now.values (place c.args.key) None))
+    rw c.place.ensures.value (sym (get_or-map (option_map {T = Bor (List ℕ)} (λ v. v.now)) c.args.self.now.values
+    (place c.args.key) None))

@@ -6,7 +6,8 @@ use Rattle.decisions.proofs.decision_map.DecisionMap.reset.Goals as goal
 pub put-requires : goal.put-requires
 put-requires g c =
     kept_within (2 ^ 31 - 1) c.self.inside.map.items None c.args.variable _ c.self.inside.map.ok.0 (λ undecided.
-    let none : c.decision.result ≡ None = c.decision.ensures ∙ ap (λ m. decision_in m c.args.variable) (sym c.self.view_is) ∙ undecided in
+    let none : c.decision.result ≡ None = c.decision.ensures
+    ∙ ap (λ m. decision_in m c.args.variable) (sym c.self.view_is) ∙ undecided in
     let no : ⊥ = search rules in no)
 
 pub returns-then-is_some : goal.returns-then-is_some

@@ -20,9 +20,11 @@ returns-clause-are c empty =
     let kept = c.in_ok-add_request.ensures.kept [] empty in
     let request = request_is before _ _ _ c.in_ok-add_request.ensures.is in
     let read = c.add_versions.ensures.are [] kept in
-    let begin = ap (index_in_format format) (lines_begin lines c.first-item.result (omega (arith, c.in-len1-up.len_at_least))
+    let begin = ap (index_in_format format) (lines_begin lines c.first-item.result
+    (omega (arith, c.in-len1-up.len_at_least))
     c.first-item.is)
-    ∙ ap (or_fault c.first-item.result.number (λ entries. with_request format entries (versions_of format [] others))) request.1 in
+    ∙ ap (or_fault c.first-item.result.number (λ entries. with_request format entries
+    (versions_of format [] others))) request.1 in
     subst (λ said. AreRead (λ text (done : ⊤). IsRead format after text) said c.add_versions.result) (sym begin)
     (request_read format (λ text (done : ⊤). IsRead format after text) (λ more (done : ⊤). IsOf after more) request.0
     (λ versions done h. record {

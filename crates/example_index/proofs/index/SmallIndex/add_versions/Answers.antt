@@ -22,7 +22,8 @@ returns-in_err-add_line-clause-are c versions kept =
     let more = c.loop-line.invariant.are versions kept in
     let line = c.line-item.result in
     let added = subst (λ (written : Written). IsLineAdded (IsOf c.add_line.new.self)
-    (option_and_then (with_version more.0) (option_and_then (version_said (plain_format written)) (plain_line line).words))
+    (option_and_then (with_version more.0) (option_and_then (version_said (plain_format written))
+    (plain_line line).words))
     line.number (Err c.in_err-add_line.field-0.0)) c.loop-line.invariant.format
     (c.in_err-add_line.ensures.is more.0 more.1) in
     let rest = map plain_line (drop (c.loop-line.line-index + 1) c.args.lines.now) in
@@ -47,7 +48,8 @@ loop-line-preserved c = record {
       (option_and_then (version_said (plain_format written)) (plain_line c.line-item.result).words))
       c.line-item.result.number (Ok c.in_ok-add_line.field-0)) c.loop-line.invariant.format
       (c.in_ok-add_line.ensures.is more.0 more.1))
-      (versions_step format c.args.lines.now c.loop-line.line-index c.line-item.result c.loop-line-test.true c.line-item.is
+      (versions_step format c.args.lines.now c.loop-line.line-index c.line-item.result c.loop-line-test.true
+      c.line-item.is
       more.0 _ more.2);
   known = c.in_ok-add_line.ensures.known;
   later = later_twice c.args.self.now.pool c.loop-line.self.pool c.add_line.new.self.pool
@@ -65,6 +67,7 @@ pub returns-clause-are : goal.returns-clause-are
 returns-clause-are c versions kept =
     let format = plain_format c.args.reader.now.format in
     let more = c.loop-line.invariant.are versions kept in
-    let none = drop_of_length-le c.args.lines.now {i = c.loop-line.line-index} (omega (arith, c.loop-line-test.false)) in
+    let none = drop_of_length-le c.args.lines.now {i = c.loop-line.line-index}
+    (omega (arith, c.loop-line-test.false)) in
     let all = ap (λ (rest : List Line). versions_of format more.0 (map plain_line rest)) none in
     subst (λ said. AreRead (λ text (done : ⊤). IsOf c.loop-line.self text) said (Ok tt)) (sym all ∙ more.2) more.1

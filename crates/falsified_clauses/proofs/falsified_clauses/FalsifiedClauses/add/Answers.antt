@@ -16,4 +16,5 @@ returns-in-Some g c s clause ready counts =
     let at = subst (λ k. Counts k s) (sym c.self.view_is) counts in
     let is = subst (λ k. IsReady k clause c.args.groups) (sym c.self.view_is) ready in
     let same = ap (λ o. numbers c.groups.inside.parent o c.groups.inside.rows) (sym c.in-Some.is) ∙ c.groups.view_is in
-    counts_added _ _ s at clause c.args.first_of_parent c.args.groups _ _ is same c.add_clause-in-Some.ensures.represents
+    counts_added _ _ s at clause c.args.first_of_parent c.args.groups _ _ is same
+    c.add_clause-in-Some.ensures.represents

@@ -55,7 +55,8 @@ returns-in_err-rows-clause-keys g c =
     let May = Contains (keys_of clause) in
     adds_both May old two three
     (adds_both May old one two (adds_listed (keys_of clause) old one _ (has_parent clause) c.group.ensures.keys)
-    (of_condition clause one two c.condition_group.ensures.keys)) (adds_listed (keys_of clause) two three _ (has_rows clause) c.group-2.ensures.keys)
+    (of_condition clause one two c.condition_group.ensures.keys))
+    (adds_listed (keys_of clause) two three _ (has_rows clause) c.group-2.ensures.keys)
 
 pub returns-in_err-make_room-clause-keys : goal.returns-in_err-make_room-clause-keys
 returns-in_err-make_room-clause-keys g c =
@@ -67,7 +68,8 @@ returns-in_err-make_room-clause-keys g c =
     let May = Contains (keys_of clause) in
     subst (λ k. AddsOnly May old k.keys) (sym c.self.view_is) (adds_both May old two three
     (adds_both May old one two (adds_listed (keys_of clause) old one _ (has_parent clause) c.group.ensures.keys)
-    (of_condition clause one two c.condition_group.ensures.keys)) (adds_listed (keys_of clause) two three _ (has_rows clause) c.group-2.ensures.keys))
+    (of_condition clause one two c.condition_group.ensures.keys))
+    (adds_listed (keys_of clause) two three _ (has_rows clause) c.group-2.ensures.keys))
 
 pub returns-clause-keys : goal.returns-clause-keys
 returns-clause-keys g c =
@@ -79,7 +81,8 @@ returns-clause-keys g c =
     let May = Contains (keys_of clause) in
     subst (λ k. AddsOnly May old k.keys) (sym c.self.view_is) (adds_both May old two three
     (adds_both May old one two (adds_listed (keys_of clause) old one _ (has_parent clause) c.group.ensures.keys)
-    (of_condition clause one two c.condition_group.ensures.keys)) (adds_listed (keys_of clause) two three _ (has_rows clause) c.group-2.ensures.keys))
+    (of_condition clause one two c.condition_group.ensures.keys))
+    (adds_listed (keys_of clause) two three _ (has_rows clause) c.group-2.ensures.keys))
 
 pub returns-clause-ready : goal.returns-clause-ready
 returns-clause-ready g c clauses counts =

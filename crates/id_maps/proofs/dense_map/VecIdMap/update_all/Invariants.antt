@@ -6,6 +6,7 @@ abbrev pub invariant-loop-value : goal.invariant-loop-value
 invariant-loop-value g l =
     let default = g.V.DefaultValue.default_value in
     record {
-      done : (k : ℕ) → k < l.value-index → goal.F-post g l.f (get_or l.initial.value-items k default) (get_or l.value-items k default);
+      done : (k : ℕ) → k < l.value-index →
+          goal.F-post g l.f (get_or l.initial.value-items k default) (get_or l.value-items k default);
       left : (k : ℕ) → l.value-index ≤ k → get_or l.value-items k default ≡ get_or l.initial.value-items k default;
     }

@@ -9,4 +9,5 @@ returns g c first is =
     let ended : c.loop-value.largest ≡ walk g.V.Ord.cmp c.loop-value.largest (values_of c.loop-value.value-iterator) =
     sym (ap (λ left. walk g.V.Ord.cmp c.loop-value.largest (values_of left)) over) in
     rw (g.met.V.DefaultValue.only_default first is, ended, c.loop-value.invariant)
-    (sparse_largest g.met.V.Ord.total g.met.K.Eq.laws g.V.DefaultValue.default_value c.args.self.now.entries (search rules))
+    (sparse_largest g.met.V.Ord.total g.met.K.Eq.laws g.V.DefaultValue.default_value c.args.self.now.entries
+    (search rules))

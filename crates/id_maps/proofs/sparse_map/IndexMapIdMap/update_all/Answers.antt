@@ -14,8 +14,10 @@ loop-index-preserved g c =
           let stood : slice_get (values_of c.loop-index.self.entries) c.loop-index.index ≡ Some w.in-Some.value.now =
           sym c.get_index_mut.ensures.value ∙ ap option_copied_mut w.in-Some.is in
           rw w.self-is record {
-            changed = change_one (goal.F-post g c.args.f) c.loop-index.index _ _ _ _ c.loop-index.invariant.changed stood w.f.ensures;
-            len = index_map_len-with_value_at c.loop-index.self c.loop-index.index w.f.result ∙ c.loop-index.invariant.len;
+            changed = change_one (goal.F-post g c.args.f) c.loop-index.index _ _ _ _ c.loop-index.invariant.changed
+                stood w.f.ensures;
+            len = index_map_len-with_value_at c.loop-index.self c.loop-index.index w.f.result
+                ∙ c.loop-index.invariant.len;
           })
       | in_default w ↦ (let no : ⊥ = search rules in absurd no)
     ]
@@ -25,7 +27,8 @@ whole : (g : _) (c : After-drop-f g) →
     Changed (goal.F-post g c.args.f) (length c.args.self.now.entries) c.args.self.now.entries c.loop-index.self.entries
 whole g c =
     let ended : c.loop-index.index ≡ length c.args.self.now.entries = search rules in
-    subst (λ n. Changed (goal.F-post g c.args.f) n c.args.self.now.entries c.loop-index.self.entries) ended c.loop-index.invariant.changed
+    subst (λ n. Changed (goal.F-post g c.args.f) n c.args.self.now.entries c.loop-index.self.entries) ended
+    c.loop-index.invariant.changed
 
 pub returns-clause-changed : goal.returns-clause-changed
 returns-clause-changed g c k =

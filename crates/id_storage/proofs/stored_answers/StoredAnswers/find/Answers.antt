@@ -25,7 +25,8 @@ returns-in-Some-clause-within g c =
     let kept = c.self.inside.answers in
     let at : place_of same kept c.args.key ≡ Some c.in-Some.index =
     sym (c.self.invariant.agrees c.args.key) ∙ sym c.get.ensures ∙ sym c.number.ensures ∙ c.in-Some.is in
-    let below = place_below same g.K.SolverId.is_id g.I.DenseIndex.limit _ kept c.args.key c.in-Some.index c.self.invariant at in
+    let below = place_below same g.K.SolverId.is_id g.I.DenseIndex.limit _ kept c.args.key c.in-Some.index
+    c.self.invariant at in
     rw (c.from_index.ensures, sym c.self.view_is, g.met.I.DenseIndex.round_trip c.in-Some.index below.1) below.0
 
 pub returns-in-Some-clause-answer : goal.returns-in-Some-clause-answer
@@ -34,7 +35,8 @@ returns-in-Some-clause-answer g c =
     let kept = c.self.inside.answers in
     let at : place_of same kept c.args.key ≡ Some c.in-Some.index =
     sym (c.self.invariant.agrees c.args.key) ∙ sym c.get.ensures ∙ sym c.number.ensures ∙ c.in-Some.is in
-    let below = place_below same g.K.SolverId.is_id g.I.DenseIndex.limit _ kept c.args.key c.in-Some.index c.self.invariant at in
+    let below = place_below same g.K.SolverId.is_id g.I.DenseIndex.limit _ kept c.args.key c.in-Some.index
+    c.self.invariant at in
     rw (c.from_index.ensures, sym c.self.view_is, g.met.I.DenseIndex.round_trip c.in-Some.index below.1)
     (answer_at same kept c.args.key c.in-Some.index at)
 

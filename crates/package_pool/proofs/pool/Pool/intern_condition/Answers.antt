@@ -6,7 +6,8 @@ use Rattle.package_pool.specs.PoolView.{lists_in}
 use Rattle.package_pool.proofs.PoolLemmas.{placed_interned, own_with_conditions}
 use Rattle.package_pool.proofs.pool.Pool.intern_condition.Goals as goal
 
-sound : (g : _) (c : goal.In_ok-intern g) → IsSound (record (lists_in c.self.inside) { conditions = c.intern.new.table.keys })
+sound : (g : _) (c : goal.In_ok-intern g) →
+    IsSound (record (lists_in c.self.inside) { conditions = c.intern.new.table.keys })
 sound g c =
     let keys = c.self.inside.conditions.keys in
     let new = c.intern.new.table.keys in
@@ -26,7 +27,8 @@ invariant_of-self-2 g c = sound g c
 pub returns-in_err-intern-clause-known : goal.returns-in_err-intern-clause-known
 returns-in_err-intern-clause-known g c =
     rw (← c.self.view_is)
-    (λ h. absurd (true≢false (sym (c.in_err-intern.ensures.known (has_condition c.self.inside.conditions.keys c.args.condition ∙ h)))))
+    (λ h. absurd (true≢false (sym (c.in_err-intern.ensures.known
+    (has_condition c.self.inside.conditions.keys c.args.condition ∙ h)))))
 
 pub returns-clause-id : goal.returns-clause-id
 returns-clause-id g c =
@@ -48,7 +50,8 @@ returns-clause-ok g c =
 pub returns-clause-ids_out : goal.returns-clause-ids_out
 returns-clause-ids_out g c =
     rw (← c.self.view_is)
-    (λ out h. absurd (c.in_ok-intern.ensures.ids_out out (has_condition c.self.inside.conditions.keys c.args.condition ∙ h)))
+    (λ out h. absurd (c.in_ok-intern.ensures.ids_out out
+    (has_condition c.self.inside.conditions.keys c.args.condition ∙ h)))
 
 pub returns-clause-sound : goal.returns-clause-sound
 returns-clause-sound g c = sound g c

@@ -8,7 +8,8 @@ pub returns : goal.returns
 returns g c =
     let keys = c.self.inside.strings.keys in
     let item = c.index-as_slice-to_index.result in
-    let seen : c.args.string.0 < length (lists_in c.self.inside).strings = subst (λ p. c.args.string.0 < length p.strings) (sym c.self.view_is) c.requires in
+    let seen : c.args.string.0 < length (lists_in c.self.inside).strings =
+    subst (λ p. c.args.string.0 < length p.strings) (sym c.self.view_is) c.requires in
     let within : c.args.string.0 < length keys = subst (λ n. c.args.string.0 < n) (length-map keys string_bytes) seen in
     rw (← c.self.view_is)
     (got_map string_bytes keys c.args.string.0 item

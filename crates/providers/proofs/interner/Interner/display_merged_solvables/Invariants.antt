@@ -6,5 +6,6 @@ invariant-loop-solvable g l =
     let text = (g.Self.Interner.texts l.self).solvable in
     record {
       name : l.merged.name ≡ l.initial.merged.name;
-      texts : map string_bytes l.merged.texts.items ++ map text (drop l.solvable-index l.solvables) ≡ map text l.solvables;
+      texts : map string_bytes l.merged.texts.items ++ map text (drop l.solvable-index l.solvables)
+          ≡ map text l.solvables;
     }

@@ -12,4 +12,8 @@ returns-clause-ok g c =
     let blank = string_bytes c.append.new.out in
     let joined = c.deref-2.ensures ∙ (c.in_ok-append_joined.ensures.ok ∙
     ap (λ texts. blank ++ join_by string_bytes (codes " | ") texts) c.deref.ensures.value) in
-    on_ok_weaker c.append-2.result (λ h. (c.deref-2.result.now, h, merged name blank _ _ _ in_order c.in_ok-append.ensures.ok joined)) c.append-2.ensures.ok
+    on_ok_weaker c.append-2.result (λ h. (
+      c.deref-2.result.now,
+      h,
+      merged name blank _ _ _ in_order c.in_ok-append.ensures.ok joined,
+    )) c.append-2.ensures.ok

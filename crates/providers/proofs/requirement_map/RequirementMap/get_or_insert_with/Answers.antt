@@ -16,7 +16,8 @@ returns g c =
     let old = c.args.self.now in
     let made = c.in_ok-place.ensures.ok in
     let entries : c.self.inside.entries.entries ≡ with_entry old r made.0 = c.self.view_is ∙ made.1 in
-    let writes : (w : g.row.V.Denot) → set_value_at c.self.inside.entries.entries c.in_ok-place.place w ≡ with_entry old r w =
+    let writes : (w : g.row.V.Denot) → set_value_at c.self.inside.entries.entries c.in_ok-place.place w
+    ≡ with_entry old r w =
     λ w. rw (entries, c.in_ok-place.ensures.place) (set_in_place r old made.0 w) in
     let both : Some c.index_mut.result.now ≡ Some made.0 =
     sym c.index_mut.ensures.value ∙ rw (entries, c.in_ok-place.ensures.place) (value_in_place r old made.0) in

@@ -10,7 +10,8 @@ pub returns-clause-ok : goal.returns-clause-ok
 returns-clause-ok g c =
     elim c.match-insert.branch [
       | in-Ok w ↦ rw w.result-is
-          (w.in-Ok.ensures.entries ∙ insert_entry-is _ (λ r q. search rules) c.self.inside.entries.entries c.args.requirement c.args.value
+          (w.in-Ok.ensures.entries ∙ insert_entry-is _ (λ r q. search rules) c.self.inside.entries.entries
+          c.args.requirement c.args.value
           ∙ ap (λ es. with_entry es c.args.requirement c.args.value) c.self.view_is)
       | in-Err w ↦ rw w.result-is tt
     ]

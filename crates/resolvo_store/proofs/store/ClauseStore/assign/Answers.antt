@@ -14,9 +14,14 @@ invariant_of-self g c =
     let entry : Entry = record { decision = decision; level = c.args.level } in
     let inside = c.self.inside in
     let new = c.try_add_decision.new.self in
-    let front = front_added (val inside.trail.entries decision.variable) inside.trail new entry c.try_add_decision.result c.try_add_decision.ensures in
+    let front = front_added (val inside.trail.entries decision.variable) inside.trail new entry
+    c.try_add_decision.result c.try_add_decision.ensures in
     record {
-      consistent = after_entry c.self.invariant.consistent entry c.try_add_decision.new.self c.try_add_decision.result variable clause (search rules) refl refl c.try_add_decision.ensures;
-      counted = keeps_counted refl (λ h. follows_more inside.falsified _ inside.trail.entries new.entries h front) c.self.invariant.counted;
-      marked = marks_assigned (store_in c.self.invariant.consistent.sound) c.self.inside.marks c.self.invariant.marked (val c.self.inside.trail.entries decision.variable) c.self.inside.trail c.try_add_decision.new.self entry c.try_add_decision.result c.try_add_decision.ensures refl;
+      consistent = after_entry c.self.invariant.consistent entry c.try_add_decision.new.self
+          c.try_add_decision.result variable clause (search rules) refl refl c.try_add_decision.ensures;
+      counted = keeps_counted refl (λ h. follows_more inside.falsified _ inside.trail.entries new.entries h front)
+          c.self.invariant.counted;
+      marked = marks_assigned (store_in c.self.invariant.consistent.sound) c.self.inside.marks
+          c.self.invariant.marked (val c.self.inside.trail.entries decision.variable) c.self.inside.trail
+          c.try_add_decision.new.self entry c.try_add_decision.result c.try_add_decision.ensures refl;
     }

@@ -13,12 +13,15 @@ use Rattle.resolvo_store.proofs.store.ClauseStore.new.Goals as goal
 
 -- the provider's functions
 abbrev given : (g : Over) → g.row.D.Denot → Provider g.row.D-NameId.Denot g.row.D-SolvableId.Denot
-given g = gathered g.D.NameId.PartialEq.eq g.D.SolvableId.PartialEq.eq g.D.NameId.Slots.IdMap.is_too_large g.D.SolvableId.Slots.IdMap.is_too_large
-    g.D.SolvableId.Set.IdSet.is_too_large g.D.NameId.SolverId.are_many g.D.Interner.universe g.D.DependencyProvider.answers
+given g = gathered g.D.NameId.PartialEq.eq g.D.SolvableId.PartialEq.eq g.D.NameId.Slots.IdMap.is_too_large
+    g.D.SolvableId.Slots.IdMap.is_too_large
+    g.D.SolvableId.Set.IdSet.is_too_large g.D.NameId.SolverId.are_many g.D.Interner.universe
+    g.D.DependencyProvider.answers
 
 pub invariant_of-result : goal.invariant_of-result
 invariant_of-result g c =
-    let kept : StoreState g.row.D.Denot g.row.D-NameId.Denot g.row.D-SolvableId.Denot g.row.D-NameId-Scores.Denot = record {
+    let kept : StoreState g.row.D.Denot g.row.D-NameId.Denot g.row.D-SolvableId.Denot g.row.D-NameId-Scores.Denot =
+    record {
       provider = c.new-3.result.provider;
       origins = c.in_ok-variables.variables;
       loaded = lists_of_loaded c.new-4.result;
@@ -35,8 +38,19 @@ invariant_of-result g c =
       queue_state = queue_state_of c.new-6.result c.new-8.result;
     } in
     record {
-      consistent = subst (λ (cs : Clauses g.row.D-NameId.Denot). IsConsistent g.D.NameId.Set.IdSet.has (with_list (store_of (given g) g.D.NameId.Scores.IdMap.value_at kept) cs) c.new-4.result c.new-5.result c.new-3.result c.new-6.result c.new-8.result) (sym c.in_ok-clauses.ensures.ok)
-          (rw (c.in_ok-variables.ensures.ok, c.new-3.ensures.provider, c.new-4.ensures, c.new-5.ensures, c.new-6.ensures.new.clauses, c.new-8.ensures, c.new-10.ensures, c.new-11.ensures)
+      consistent = subst (λ (cs : Clauses g.row.D-NameId.Denot). IsConsistent g.D.NameId.Set.IdSet.has
+          (with_list (store_of (given g) g.D.NameId.Scores.IdMap.value_at kept) cs) c.new-4.result c.new-5.result
+          c.new-3.result c.new-6.result c.new-8.result) (sym c.in_ok-clauses.ensures.ok)
+          (rw (
+            c.in_ok-variables.ensures.ok,
+            c.new-3.ensures.provider,
+            c.new-4.ensures,
+            c.new-5.ensures,
+            c.new-6.ensures.new.clauses,
+            c.new-8.ensures,
+            c.new-10.ensures,
+            c.new-11.ensures,
+          )
           (record {
             few = search rules;
             known = search rules;
@@ -44,14 +58,17 @@ invariant_of-result g c =
             queried = search rules;
             may_decide = new_may_ask c.new-6.result _ _ c.new-6.ensures.new c.new-6.ensures.stands refl;
           }));
-      counted = subst (λ rs. AreCounted c.new-7.result rs c.new-8.result.entries c.new-4.result c.new-5.result) (sym c.new-6.ensures.new.clauses)
-          (none_counted c.new-7.result c.new-8.result.entries c.new-7.ensures.none.0 c.new-7.ensures.none.1 (c.new-7.ensures.clauses c.new-4.result c.new-5.result));
+      counted = subst (λ rs. AreCounted c.new-7.result rs c.new-8.result.entries c.new-4.result c.new-5.result)
+          (sym c.new-6.ensures.new.clauses)
+          (none_counted c.new-7.result c.new-8.result.entries c.new-7.ensures.none.0 c.new-7.ensures.none.1
+          (c.new-7.ensures.clauses c.new-4.result c.new-5.result));
       marked = rw c.new-9.ensures (λ k d h. absurd (omega (arith, h)));
     }
 
 pub returns-clause-sound : goal.returns-clause-sound
 returns-clause-sound g c =
-    let kept : StoreState g.row.D.Denot g.row.D-NameId.Denot g.row.D-SolvableId.Denot g.row.D-NameId-Scores.Denot = record {
+    let kept : StoreState g.row.D.Denot g.row.D-NameId.Denot g.row.D-SolvableId.Denot g.row.D-NameId-Scores.Denot =
+    record {
       provider = c.new-3.result.provider;
       origins = c.in_ok-variables.variables;
       loaded = lists_of_loaded c.new-4.result;
@@ -67,5 +84,15 @@ returns-clause-sound g c =
       scores = c.new-11.result.map;
       queue_state = queue_state_of c.new-6.result c.new-8.result;
     } in
-    subst (λ (cs : Clauses g.row.D-NameId.Denot). IsSound (with_list (store_of (given g) g.D.NameId.Scores.IdMap.value_at kept) cs)) (sym c.in_ok-clauses.ensures.ok)
-    (rw (c.in_ok-variables.ensures.ok, c.new-3.ensures.provider, c.new-4.ensures, c.new-5.ensures, c.new-6.ensures.new.clauses, c.new-8.ensures, c.new-10.ensures, c.new-11.ensures) (IsSound-new_store _))
+    subst (λ (cs : Clauses g.row.D-NameId.Denot). IsSound (with_list
+    (store_of (given g) g.D.NameId.Scores.IdMap.value_at kept) cs)) (sym c.in_ok-clauses.ensures.ok)
+    (rw (
+      c.in_ok-variables.ensures.ok,
+      c.new-3.ensures.provider,
+      c.new-4.ensures,
+      c.new-5.ensures,
+      c.new-6.ensures.new.clauses,
+      c.new-8.ensures,
+      c.new-10.ensures,
+      c.new-11.ensures,
+    ) (IsSound-new_store _))

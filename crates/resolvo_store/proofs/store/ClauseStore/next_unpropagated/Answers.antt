@@ -11,10 +11,13 @@ use Rattle.resolvo_store.proofs.store.ClauseStore.next_unpropagated.Goals as goa
 pub invariant_of-self : goal.invariant_of-self
 invariant_of-self g c =
     record {
-      consistent = after_trail c.self.invariant.consistent (propagated c.self.inside.trail) (IsSound-propagated _ c.self.invariant.consistent.sound c.self.inside.trail.floor)
+      consistent = after_trail c.self.invariant.consistent (propagated c.self.inside.trail)
+          (IsSound-propagated _ c.self.invariant.consistent.sound c.self.inside.trail.floor)
           (in_step-propagated c.self.inside.trail c.self.invariant.consistent.may_decide.in_step)
           c.next_unpropagated.ensures.trail;
-      counted = counted_still refl (ap (λ (t : Trail). t.entries) c.next_unpropagated.ensures.trail) c.self.invariant.counted;
-      marked = marks_same (store_in c.self.invariant.consistent.sound) c.self.inside.marks c.self.invariant.marked c.next_unpropagated.new.self
+      counted = counted_still refl (ap (λ (t : Trail). t.entries) c.next_unpropagated.ensures.trail)
+          c.self.invariant.counted;
+      marked = marks_same (store_in c.self.invariant.consistent.sound) c.self.inside.marks c.self.invariant.marked
+          c.next_unpropagated.new.self
           (ap (λ (t : Trail). t.entries) c.next_unpropagated.ensures.trail);
     }

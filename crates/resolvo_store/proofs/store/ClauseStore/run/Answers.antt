@@ -15,8 +15,10 @@ use Rattle.resolvo_store.proofs.store.ClauseStore.run.Goals as goal
 
 -- the provider's functions
 abbrev given : (g : Over) → g.row.D.Denot → Provider g.row.D-NameId.Denot g.row.D-SolvableId.Denot
-given g = gathered g.D.NameId.PartialEq.eq g.D.SolvableId.PartialEq.eq g.D.NameId.Slots.IdMap.is_too_large g.D.SolvableId.Slots.IdMap.is_too_large
-    g.D.SolvableId.Set.IdSet.is_too_large g.D.NameId.SolverId.are_many g.D.Interner.universe g.D.DependencyProvider.answers
+given g = gathered g.D.NameId.PartialEq.eq g.D.SolvableId.PartialEq.eq g.D.NameId.Slots.IdMap.is_too_large
+    g.D.SolvableId.Slots.IdMap.is_too_large
+    g.D.SolvableId.Set.IdSet.is_too_large g.D.NameId.SolverId.are_many g.D.Interner.universe
+    g.D.DependencyProvider.answers
 
 -- its laws
 abbrev lawful : (g : Over) (p : g.row.D.Denot) → IsLawful (given g p)
@@ -30,8 +32,14 @@ lawful g p = record {
 
 pub loop-command-preserved : goal.loop-command-preserved
 loop-command-preserved g c = record {
-  ran = rw (take_more c.args.commands.now c.loop-command.command-index c.command-item.result c.loop-command-test.true, ← c.command-item.is, c.push_reserved.ensures.items)
-      (simp map-append (run_more (store g c.args.self.now) (store g c.loop-command.self) _ _ _ _ _ c.loop-command.invariant.ran c.step-reply.ensures.step));
+  ran = rw (
+    take_more c.args.commands.now c.loop-command.command-index c.command-item.result
+        c.loop-command-test.true,
+    ← c.command-item.is,
+    c.push_reserved.ensures.items,
+  )
+      (simp map-append (run_more (store g c.args.self.now) (store g c.loop-command.self) _ _ _ _ _
+      c.loop-command.invariant.ran c.step-reply.ensures.step));
   provider = c.step-reply.ensures.provider ∙ c.loop-command.invariant.provider;
   len = c.push_reserved.ensures.len ∙ ap (λ n. n + 1) c.loop-command.invariant.len;
   room = search rules;
@@ -39,15 +47,23 @@ loop-command-preserved g c = record {
 
 pub returns-clause-ok : goal.returns-clause-ok
 returns-clause-ok g c =
-    subst (λ cs. Run (store g c.args.self.now) (map command_of cs) (map reply_of c.loop-command.replies.items) (store g c.loop-command.self))
+    subst (λ cs. Run (store g c.args.self.now) (map command_of cs) (map reply_of c.loop-command.replies.items)
+    (store g c.loop-command.self))
     (take_all c.loop-command.command-index c.args.commands.now c.loop-command-test.false) c.loop-command.invariant.ran
 
 pub returns-clause-one_each : goal.returns-clause-one_each
-returns-clause-one_each g c = omega (arith, c.loop-command.invariant.len, c.loop-command-test.false, c.loop-command.auto.command-index-end)
+returns-clause-one_each g c = omega (
+  arith,
+  c.loop-command.invariant.len,
+  c.loop-command-test.false,
+  c.loop-command.auto.command-index-end,
+)
 
 pub returns-clause-sound : goal.returns-clause-sound
 returns-clause-sound g c =
-    IsSound-run (map command_of (take c.loop-command.command-index c.args.commands.now)) (map reply_of c.loop-command.replies.items) (lawful g c.self.inside.cache.provider) c.self.invariant.consistent.sound
+    IsSound-run (map command_of (take c.loop-command.command-index c.args.commands.now))
+    (map reply_of c.loop-command.replies.items) (lawful g c.self.inside.cache.provider)
+    c.self.invariant.consistent.sound
     (rw (← c.self.view_is) at c.loop-command.invariant.ran)
 
 pub returns-clause-at_most_one : goal.returns-clause-at_most_one
@@ -55,4 +71,5 @@ returns-clause-at_most_one g c = let sound = returns-clause-sound g c in forbids
 
 pub returns-in_err-replies-clause-at_most_one : goal.returns-in_err-replies-clause-at_most_one
 returns-in_err-replies-clause-at_most_one g c =
-    let sound = subst (λ k. IsSound (store g k)) c.self.view_is c.self.invariant.consistent.sound in forbids_two (store_in sound) sound
+    let sound = subst (λ k. IsSound (store g k)) c.self.view_is c.self.invariant.consistent.sound in
+    forbids_two (store_in sound) sound

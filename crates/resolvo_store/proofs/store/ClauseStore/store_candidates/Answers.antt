@@ -28,8 +28,10 @@ use Rattle.resolvo_store.proofs.store.ClauseStore.store_candidates.Goals as goal
 
 -- the provider's functions
 abbrev given : (g : Over) → g.row.D.Denot → Provider g.row.D-NameId.Denot g.row.D-SolvableId.Denot
-given g = gathered g.D.NameId.PartialEq.eq g.D.SolvableId.PartialEq.eq g.D.NameId.Slots.IdMap.is_too_large g.D.SolvableId.Slots.IdMap.is_too_large
-    g.D.SolvableId.Set.IdSet.is_too_large g.D.NameId.SolverId.are_many g.D.Interner.universe g.D.DependencyProvider.answers
+given g = gathered g.D.NameId.PartialEq.eq g.D.SolvableId.PartialEq.eq g.D.NameId.Slots.IdMap.is_too_large
+    g.D.SolvableId.Slots.IdMap.is_too_large
+    g.D.SolvableId.Set.IdSet.is_too_large g.D.NameId.SolverId.are_many g.D.Interner.universe
+    g.D.DependencyProvider.answers
 
 -- its laws
 abbrev lawful : (g : Over) (p : g.row.D.Denot) → IsLawful (given g p)
@@ -42,11 +44,13 @@ lawful g p = record {
 }
 
 -- the abstract store
-abbrev store : (g : Over) → StoreState g.row.D.Denot g.row.D-NameId.Denot g.row.D-SolvableId.Denot g.row.D-NameId-Scores.Denot → Store g.row.D-NameId.Denot g.row.D-SolvableId.Denot
+abbrev store : (g : Over) → StoreState g.row.D.Denot g.row.D-NameId.Denot g.row.D-SolvableId.Denot
+    g.row.D-NameId-Scores.Denot → Store g.row.D-NameId.Denot g.row.D-SolvableId.Denot
 store g = store_of (given g) g.D.NameId.Scores.IdMap.value_at
 
 -- the candidates of a requirement are known
-candidates_known : (g : Over) (p : g.row.D.Denot) (r : Requirement) → All (IsKnownSolvable (g.D.Interner.universe p)) (sorted_of (given g p) r)
+candidates_known : (g : Over) (p : g.row.D.Denot) (r : Requirement) →
+    All (IsKnownSolvable (g.D.Interner.universe p)) (sorted_of (given g p) r)
 candidates_known g p r = all_known (given g p) (lawful g p) (sets_of (g.D.Interner.universe p) r)
 
 -- a beginning of the candidates have variables
@@ -55,9 +59,13 @@ invariant_of-self g c =
     let inside = c.self.inside in
     let got = c.in_err-lists.ensures.err in
     record {
-      consistent = after_variables (given g) g.D.NameId.Scores.IdMap.value_at g.D.SolvableId.Set.IdSet.has g.D.NameId.Set.IdSet.has (left_of c.self.view_is) inside.variables inside.loaded inside.disjunctions inside.queue inside.trail inside.cache c.load_lists.new.cache c.in_err-lists.ensures.later
-          c.self.invariant.consistent (lawful g inside.cache.provider) (take got.0 (sorted_of (given g inside.cache.provider) c.args.requirement)) c.load_lists.new.variables
-          (All-take (IsKnownSolvable (g.D.Interner.universe inside.cache.provider)) got.0 _ (candidates_known g inside.cache.provider c.args.requirement)) got.1;
+      consistent = after_variables (given g) g.D.NameId.Scores.IdMap.value_at g.D.SolvableId.Set.IdSet.has
+          g.D.NameId.Set.IdSet.has (left_of c.self.view_is) inside.variables inside.loaded inside.disjunctions
+          inside.queue inside.trail inside.cache c.load_lists.new.cache c.in_err-lists.ensures.later
+          c.self.invariant.consistent (lawful g inside.cache.provider)
+          (take got.0 (sorted_of (given g inside.cache.provider) c.args.requirement)) c.load_lists.new.variables
+          (All-take (IsKnownSolvable (g.D.Interner.universe inside.cache.provider)) got.0 _
+          (candidates_known g inside.cache.provider c.args.requirement)) got.1;
       counted = c.self.invariant.counted;
       marked = c.self.invariant.marked;
     }
@@ -67,8 +75,11 @@ pub invariant_of-self-in_err-reply : goal.invariant_of-self-in_err-reply
 invariant_of-self-in_err-reply g c =
     let inside = c.self.inside in
     record {
-      consistent = after_variables (given g) g.D.NameId.Scores.IdMap.value_at g.D.SolvableId.Set.IdSet.has g.D.NameId.Set.IdSet.has (left_of c.self.view_is) inside.variables inside.loaded inside.disjunctions inside.queue inside.trail inside.cache c.load_lists.new.cache c.in_ok-lists.ensures.later
-          c.self.invariant.consistent (lawful g inside.cache.provider) (sorted_of (given g inside.cache.provider) c.args.requirement) c.load_lists.new.variables
+      consistent = after_variables (given g) g.D.NameId.Scores.IdMap.value_at g.D.SolvableId.Set.IdSet.has
+          g.D.NameId.Set.IdSet.has (left_of c.self.view_is) inside.variables inside.loaded inside.disjunctions
+          inside.queue inside.trail inside.cache c.load_lists.new.cache c.in_ok-lists.ensures.later
+          c.self.invariant.consistent (lawful g inside.cache.provider)
+          (sorted_of (given g inside.cache.provider) c.args.requirement) c.load_lists.new.variables
           (candidates_known g inside.cache.provider c.args.requirement) c.in_ok-lists.ensures.ok;
       counted = c.self.invariant.counted;
       marked = c.self.invariant.marked;
@@ -79,13 +90,21 @@ invariant_of-self-in_err-insert g c =
     let inside = c.self.inside in
     let new = c.load_lists.new.cache in
     record {
-      consistent = subst (λ kept. IsConsistent g.D.NameId.Set.IdSet.has (store_with (given g) g.D.NameId.Scores.IdMap.value_at (left_of c.self.view_is) new.provider c.load_lists.new.variables kept) kept inside.disjunctions new inside.queue inside.trail) (sym c.in_err-insert.ensures.err.1)
-          (after_variables (given g) g.D.NameId.Scores.IdMap.value_at g.D.SolvableId.Set.IdSet.has g.D.NameId.Set.IdSet.has (left_of c.self.view_is) inside.variables inside.loaded inside.disjunctions inside.queue inside.trail inside.cache new c.in_ok-lists.ensures.later
-          c.self.invariant.consistent (lawful g inside.cache.provider) (sorted_of (given g inside.cache.provider) c.args.requirement) c.load_lists.new.variables
+      consistent = subst (λ kept. IsConsistent g.D.NameId.Set.IdSet.has
+          (store_with (given g) g.D.NameId.Scores.IdMap.value_at (left_of c.self.view_is) new.provider
+          c.load_lists.new.variables kept) kept inside.disjunctions new inside.queue inside.trail)
+          (sym c.in_err-insert.ensures.err.1)
+          (after_variables (given g) g.D.NameId.Scores.IdMap.value_at g.D.SolvableId.Set.IdSet.has
+          g.D.NameId.Set.IdSet.has (left_of c.self.view_is) inside.variables inside.loaded inside.disjunctions
+          inside.queue inside.trail inside.cache new c.in_ok-lists.ensures.later
+          c.self.invariant.consistent (lawful g inside.cache.provider)
+          (sorted_of (given g inside.cache.provider) c.args.requirement) c.load_lists.new.variables
           (candidates_known g inside.cache.provider c.args.requirement) c.in_ok-lists.ensures.ok);
-      counted = subst (λ kept. AreCounted inside.falsified inside.queue.clauses inside.trail.entries kept inside.disjunctions)
+      counted = subst (λ kept. AreCounted inside.falsified inside.queue.clauses inside.trail.entries kept
+          inside.disjunctions)
           (sym c.in_err-insert.ensures.err.1) c.self.invariant.counted;
-      marked = subst (λ kept. HasMarks (store_with (given g) g.D.NameId.Scores.IdMap.value_at (left_of c.self.view_is) new.provider c.load_lists.new.variables kept) inside.marks)
+      marked = subst (λ kept. HasMarks (store_with (given g) g.D.NameId.Scores.IdMap.value_at
+          (left_of c.self.view_is) new.provider c.load_lists.new.variables kept) inside.marks)
           (sym c.in_err-insert.ensures.err.1) c.self.invariant.marked;
     }
 
@@ -97,15 +116,23 @@ invariant_of-self-2 g c =
     let fresh : lookup (same_requirement r) (lists_of_loaded inside.loaded) ≡ None =
     subst (λ kept. lookup (same_requirement r) kept.loaded ≡ None) (sym c.self.view_is) c.requires.new in
     record {
-      consistent = after_load (given g) g.D.NameId.Scores.IdMap.value_at g.D.SolvableId.Set.IdSet.has g.D.NameId.Set.IdSet.has (left_of c.self.view_is) inside.variables inside.loaded inside.disjunctions inside.queue inside.trail inside.cache c.load_lists.new.cache c.in_ok-lists.ensures.later
-          c.self.invariant.consistent (lawful g inside.cache.provider) r (sorted_of_set (given g inside.cache.provider)) c.load_lists.new.variables c.in_ok-lists.lists c.insert.new.self
-          (candidates_known g inside.cache.provider r) fresh c.in_ok-lists.ensures.ok c.in_ok-lists.ensures.lists c.in_ok-lists.ensures.few c.in_ok-lists.ensures.queried c.in_ok-insert.ensures.ok;
-      counted = subst (λ kept. AreCounted inside.falsified inside.queue.clauses inside.trail.entries kept inside.disjunctions)
+      consistent = after_load (given g) g.D.NameId.Scores.IdMap.value_at g.D.SolvableId.Set.IdSet.has
+          g.D.NameId.Set.IdSet.has (left_of c.self.view_is) inside.variables inside.loaded inside.disjunctions
+          inside.queue inside.trail inside.cache c.load_lists.new.cache c.in_ok-lists.ensures.later
+          c.self.invariant.consistent (lawful g inside.cache.provider) r
+          (sorted_of_set (given g inside.cache.provider)) c.load_lists.new.variables c.in_ok-lists.lists
+          c.insert.new.self
+          (candidates_known g inside.cache.provider r) fresh c.in_ok-lists.ensures.ok c.in_ok-lists.ensures.lists
+          c.in_ok-lists.ensures.few c.in_ok-lists.ensures.queried c.in_ok-insert.ensures.ok;
+      counted = subst (λ kept. AreCounted inside.falsified inside.queue.clauses inside.trail.entries kept
+          inside.disjunctions)
           (sym c.in_ok-insert.ensures.ok) (keeps_counted refl (λ h. record {
             within = h.within;
-            counts = counts_lists inside.falsified.clauses _ h.counts r c.in_ok-lists.lists (lookup-none inside.loaded r fresh);
+            counts = counts_lists inside.falsified.clauses _ h.counts r c.in_ok-lists.lists
+                (lookup-none inside.loaded r fresh);
           }) c.self.invariant.counted);
-      marked = marks_loaded (store_in c.self.invariant.consistent.sound) inside.marks c.self.invariant.marked inside.loaded r c.in_ok-lists.lists fresh refl c.in_ok-insert.ensures.ok;
+      marked = marks_loaded (store_in c.self.invariant.consistent.sound) inside.marks c.self.invariant.marked
+          inside.loaded r c.in_ok-lists.lists fresh refl c.in_ok-insert.ensures.ok;
     }
 
 pub returns-clause-lists : goal.returns-clause-lists
@@ -114,7 +141,8 @@ returns-clause-lists g c =
     let p = given g c.self.inside.cache.provider in
     λ is_copied. subst (λ kept. items_of c.in_ok-reply.reply ≡ variables_loaded (store g kept) r) c.self.view_is
     (c.in_ok-reply.ensures.ok is_copied ∙ c.in_ok-lists.ensures.lists
-    ∙ ap (λ os. map (λ v. map (interned_variable g.D.SolvableId.PartialEq.eq os) (sorted_of_set p v)) (sets_of p.universe r)) c.in_ok-lists.ensures.ok)
+    ∙ ap (λ os. map (λ v. map (interned_variable g.D.SolvableId.PartialEq.eq os) (sorted_of_set p v))
+    (sets_of p.universe r)) c.in_ok-lists.ensures.ok)
 
 pub returns-clause-ok : goal.returns-clause-ok
 returns-clause-ok g c =
@@ -127,18 +155,38 @@ returns-clause-ok g c =
     subst (λ kept. lookup (same_requirement r) kept.loaded ≡ None) (sym c.self.view_is) c.requires.new in
     let lists : items_of c.in_ok-lists.lists ≡ variables_loaded (store g was) r =
     c.in_ok-lists.ensures.lists
-    ∙ ap (λ os. map (λ v. map (interned_variable g.D.SolvableId.PartialEq.eq os) (sorted_of_set p v)) (sets_of p.universe r)) c.in_ok-lists.ensures.ok in
-    let loaded : lists_of_loaded c.insert.new.self ≡ lists_of_loaded inside.loaded ++ (r, variables_loaded (store g was) r) ∷ [] =
+    ∙ ap (λ os. map (λ v. map (interned_variable g.D.SolvableId.PartialEq.eq os) (sorted_of_set p v))
+    (sets_of p.universe r)) c.in_ok-lists.ensures.ok in
+    let loaded : lists_of_loaded c.insert.new.self ≡ lists_of_loaded inside.loaded ++ (
+      r,
+      variables_loaded (store g was) r,
+    ) ∷ [] =
     ap lists_of_loaded c.in_ok-insert.ensures.ok ∙ insert-kept inside.loaded r c.in_ok-lists.lists fresh
     ∙ ap (λ ls. lists_of_loaded inside.loaded ++ (r, ls) ∷ []) lists in
-    let Made : StoreState g.row.D.Denot g.row.D-NameId.Denot g.row.D-SolvableId.Denot g.row.D-NameId-Scores.Denot → Type 0 = λ kept.
+    let Made : StoreState g.row.D.Denot g.row.D-NameId.Denot g.row.D-SolvableId.Denot g.row.D-NameId-Scores.Denot →
+    Type 0 = λ kept.
     ◌≡◌ {A = StoreState g.row.D.Denot g.row.D-NameId.Denot g.row.D-SolvableId.Denot g.row.D-NameId-Scores.Denot}
-    (record was { provider = new.provider; origins = c.load_lists.new.variables; loaded = lists_of_loaded c.insert.new.self })
-    (record kept { origins = origins_loaded (store g kept) r; loaded = kept.loaded ++ (r, variables_loaded (store g kept) r) ∷ [] }) in
+    (record was {
+      provider = new.provider;
+      origins = c.load_lists.new.variables;
+      loaded =
+          lists_of_loaded c.insert.new.self;
+    })
+    (record kept {
+      origins = origins_loaded (store g kept) r;
+      loaded =
+          kept.loaded ++ (r, variables_loaded (store g kept) r) ∷ [];
+    }) in
     subst Made c.self.view_is
-    (ap (λ q. record was { provider = q; origins = c.load_lists.new.variables; loaded = lists_of_loaded c.insert.new.self }) c.in_ok-lists.ensures.later.provider
+    (ap (λ q. record was {
+      provider = q;
+      origins = c.load_lists.new.variables;
+      loaded =
+          lists_of_loaded c.insert.new.self;
+    }) c.in_ok-lists.ensures.later.provider
     ∙ ap (λ os. record was { origins = os; loaded = lists_of_loaded c.insert.new.self }) c.in_ok-lists.ensures.ok
-    ∙ ap (λ ls. record was { origins = origins_loaded (store_in c.self.invariant.consistent.sound) r; loaded = ls }) loaded)
+    ∙ ap (λ ls. record was { origins = origins_loaded (store_in c.self.invariant.consistent.sound) r; loaded = ls })
+    loaded)
 
 pub returns-clause-fit : goal.returns-clause-fit
 returns-clause-fit g c =

@@ -9,8 +9,10 @@ use Rattle.resolvo_store.proofs.store.ClauseStore.variable.Goals as goal
 
 -- the provider's functions
 abbrev given : (g : Over) → g.row.D.Denot → Provider g.row.D-NameId.Denot g.row.D-SolvableId.Denot
-given g = gathered g.D.NameId.PartialEq.eq g.D.SolvableId.PartialEq.eq g.D.NameId.Slots.IdMap.is_too_large g.D.SolvableId.Slots.IdMap.is_too_large
-    g.D.SolvableId.Set.IdSet.is_too_large g.D.NameId.SolverId.are_many g.D.Interner.universe g.D.DependencyProvider.answers
+given g = gathered g.D.NameId.PartialEq.eq g.D.SolvableId.PartialEq.eq g.D.NameId.Slots.IdMap.is_too_large
+    g.D.SolvableId.Slots.IdMap.is_too_large
+    g.D.SolvableId.Set.IdSet.is_too_large g.D.NameId.SolverId.are_many g.D.Interner.universe
+    g.D.DependencyProvider.answers
 
 -- its laws
 abbrev lawful : (g : Over) (p : g.row.D.Denot) → IsLawful (given g p)
@@ -25,10 +27,14 @@ lawful g p = record {
 pub invariant_of-self : goal.invariant_of-self
 invariant_of-self g c =
     let known : (g.D.Interner.universe c.self.inside.cache.provider).knows_solvable c.args.solvable ≡ true =
-    ap (λ p. (g.D.Interner.universe p).knows_solvable c.args.solvable) (sym c.provider.ensures.provider) ∙ sym c.knows_solvable.ensures ∙ c.if-not-knows_solvable.false in
+    ap (λ p. (g.D.Interner.universe p).knows_solvable c.args.solvable) (sym c.provider.ensures.provider)
+    ∙ sym c.knows_solvable.ensures ∙ c.if-not-knows_solvable.false in
     record {
-      consistent = after_origins c.self.invariant.consistent (with_variable g.D.SolvableId.PartialEq.eq c.self.inside.variables c.args.solvable) c.intern_solvable.result
-          (IsSound-with_variable _ c.self.invariant.consistent.sound (lawful g c.self.inside.cache.provider) c.args.solvable known) c.intern_solvable.ensures.ok c.intern_solvable.ensures.err;
+      consistent = after_origins c.self.invariant.consistent
+          (with_variable g.D.SolvableId.PartialEq.eq c.self.inside.variables c.args.solvable) c.intern_solvable.result
+          (IsSound-with_variable _ c.self.invariant.consistent.sound
+          (lawful g c.self.inside.cache.provider) c.args.solvable known) c.intern_solvable.ensures.ok
+          c.intern_solvable.ensures.err;
       counted = c.self.invariant.counted;
       marked = c.self.invariant.marked;
     }

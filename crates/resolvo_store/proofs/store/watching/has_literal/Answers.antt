@@ -17,7 +17,9 @@ returns g c =
     let kept = stored_in c.learnt-learnt.result.now loaded disjunctions in
     let now = record (stored_in [] loaded disjunctions) { learnt = list.learnt } in
     let there : slice_get list.clauses c.args.clause ≡ Some clause = sym c.get.ensures ∙ c.in-Some.is in
-    let found : c.find_literal-found.result ≡ find (same_literal l) (literals_of kept clause) = c.find_literal-found.ensures.tested (same_literal l) (λ x b k. search rules) in
+    let found : c.find_literal-found.result ≡ find (same_literal l) (literals_of kept clause) =
+    c.find_literal-found.ensures.tested (same_literal l) (λ x b k. search rules) in
     let same = ap (λ ls. record (stored_in [] loaded disjunctions) { learnt = ls }) c.learnt-learnt.ensures in
-    c.is_some.ensures ∙ ap is_some found ∙ found_any (same_literal l) (literals_of kept clause) ∙ ap (λ k. is_literal_in l (literals_of k clause)) same
+    c.is_some.ensures ∙ ap is_some found ∙ found_any (same_literal l) (literals_of kept clause)
+    ∙ ap (λ k. is_literal_in l (literals_of k clause)) same
     ∙ ap (λ o. is_literal_in l (unwrap_or (option_map (literals_of now) o) [])) (sym there)

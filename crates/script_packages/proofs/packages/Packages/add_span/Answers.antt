@@ -13,4 +13,12 @@ returns-clause-ok c =
     let with_spans : List (ℕ × Span) → Listing = λ spans. record (listing_of p) { spans = spans } in
     let kept : c.insert_copy.new.self ≡ insert_entry same_id p.spans name c.args.span = search rules in
     ap with_spans (kept ∙ inserted_span p.spans name c.args.span c.requires.new)
-    ∙ ap (λ last. with_spans (p.spans ++ (name, record { first = c.args.span.first; last = last; favored = c.args.span.favored }) ∷ [])) c.requires.last
+    ∙ ap (λ last. with_spans (p.spans ++ (
+      name,
+      record {
+        first = c.args.span.first;
+        last = last;
+        favored =
+            c.args.span.favored;
+      },
+    ) ∷ [])) c.requires.last

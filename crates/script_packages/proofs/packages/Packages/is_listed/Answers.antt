@@ -12,7 +12,8 @@ pub returns-then-not-knows_name : goal.returns-then-not-knows_name
 returns-then-not-knows_name c =
     let names = c.args.self.now.pool.names in
     let past = not_below c.from_index-id.result (length names) (sym c.knows_name.ensures ∙ c.if-not-knows_name.true) in
-    unlisted (listing_of c.args.self.now) c.args.name.now c.loop-index.index c.loop-index.invariant.within c.loop-index.invariant.others
+    unlisted (listing_of c.args.self.now) c.args.name.now c.loop-index.index c.loop-index.invariant.within
+    c.loop-index.invariant.others
     (omega (arith, past, c.from_index-id.ensures, length-map names string_bytes))
 
 pub returns-then-eq : goal.returns-then-eq
@@ -39,12 +40,14 @@ loop-index-preserved c =
     record {
       within = omega (arith, slice_get_within names c.loop-index.index text here, length-map names string_bytes);
       others = below_more _ _ c.loop-index.invariant.others
-          (ap (bytes_eq c.args.name.now) (name_at string_bytes names c.loop-index.index text here ∙ sym c.as_str.ensures.value)
+          (ap (bytes_eq c.args.name.now) (name_at string_bytes names c.loop-index.index text here
+          ∙ sym c.as_str.ensures.value)
           ∙ (sym c.eq.ensures ∙ c.if-eq.false));
     }
 
 pub returns : goal.returns
 returns c =
     let fits = c.tell_sound.ensures.fits.names in
-    unlisted (listing_of c.args.self.now) c.args.name.now c.loop-index.index c.loop-index.invariant.within c.loop-index.invariant.others
+    unlisted (listing_of c.args.self.now) c.args.name.now c.loop-index.index c.loop-index.invariant.within
+    c.loop-index.invariant.others
     (omega (arith, fits, length-map c.args.self.now.pool.names string_bytes))

@@ -33,9 +33,14 @@ returns-clause-ok c =
       };
       spans = p.spans;
     } in
-    let with_names : List (List ℕ) → Listing = λ names. record (listing_of p) { pool = record (listing_of p).pool { names = names } } in
-    let listed : OnOk c.intern_package_name.result (seen c.intern_package_name.new.self ≡ named (listing_of p) c.args.name.now) =
+    let with_names : List (List ℕ) → Listing = λ names. record (listing_of p) {
+      pool =
+          record (listing_of p).pool { names = names };
+    } in
+    let listed : OnOk c.intern_package_name.result (seen c.intern_package_name.new.self
+    ≡ named (listing_of p) c.args.name.now) =
     on_ok_weaker c.intern_package_name.result (λ h. ap (λ (pool : Lists _ VersionRange ℕ). seen pool) h
     ∙ ap with_names (interned_by_view string_bytes string_eq bytes_eq (λ x y. refl) p.pool.names c.in_ok-text.text
-    ∙ ap (interned bytes_eq (map string_bytes p.pool.names)) c.in_ok-text.ensures.ok)) c.intern_package_name.ensures.ok in
+    ∙ ap (interned bytes_eq (map string_bytes p.pool.names)) c.in_ok-text.ensures.ok))
+    c.intern_package_name.ensures.ok in
     search rules

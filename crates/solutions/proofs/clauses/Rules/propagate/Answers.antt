@@ -4,16 +4,23 @@ use Rattle.solutions.proofs.FollowsLemmas.{follows_none, follows_step}
 use Rattle.solutions.proofs.clauses.Rules.propagate.Goals as goal
 
 pub loop-place-init : goal.loop-place-init
-loop-place-init g c = follows_none (λ holds. AreSatisfied holds c.args.self.now.clauses.now) c.args.trail.now.literals.items
+loop-place-init g c = follows_none (λ holds. AreSatisfied holds c.args.self.now.clauses.now)
+    c.args.trail.now.literals.items
 
 pub loop-place-preserved : goal.loop-place-preserved
 loop-place-preserved g c =
     let no : c.in_ok-visit_watchers.field-0 ≡ false = search rules in
-    follows_step (λ holds. AreSatisfied holds c.args.self.now.clauses.now) (λ holds. AreSatisfied holds c.args.self.now.clauses.now) c.args.trail.now.literals.items c.loop-place.trail.literals.items c.visit_watchers.new.trail.literals.items
-    c.in_ok-visit_watchers.field-0 false no (λ holds such trail. such) c.loop-place.invariant c.in_ok-visit_watchers.ensures
+    follows_step (λ holds. AreSatisfied holds c.args.self.now.clauses.now)
+    (λ holds. AreSatisfied holds c.args.self.now.clauses.now) c.args.trail.now.literals.items
+    c.loop-place.trail.literals.items c.visit_watchers.new.trail.literals.items
+    c.in_ok-visit_watchers.field-0 false no (λ holds such trail. such) c.loop-place.invariant
+    c.in_ok-visit_watchers.ensures
 
 pub returns-then-branch : goal.returns-then-branch
 returns-then-branch g c =
     let yes : c.in_ok-visit_watchers.field-0 ≡ true = search rules in
-    follows_step (λ holds. AreSatisfied holds c.args.self.now.clauses.now) (λ holds. AreSatisfied holds c.args.self.now.clauses.now) c.args.trail.now.literals.items c.loop-place.trail.literals.items c.visit_watchers.new.trail.literals.items
-    c.in_ok-visit_watchers.field-0 true yes (λ holds such trail. such) c.loop-place.invariant c.in_ok-visit_watchers.ensures
+    follows_step (λ holds. AreSatisfied holds c.args.self.now.clauses.now)
+    (λ holds. AreSatisfied holds c.args.self.now.clauses.now) c.args.trail.now.literals.items
+    c.loop-place.trail.literals.items c.visit_watchers.new.trail.literals.items
+    c.in_ok-visit_watchers.field-0 true yes (λ holds such trail. such) c.loop-place.invariant
+    c.in_ok-visit_watchers.ensures

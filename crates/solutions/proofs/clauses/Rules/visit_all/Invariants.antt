@@ -3,4 +3,5 @@ use Rattle.solutions.specs.Clauses.{AreSatisfied, Follows}
 use Rattle.solutions.proofs.clauses.Rules.visit_all.Given as goal
 
 abbrev pub invariant-loop-place : goal.invariant-loop-place
-invariant-loop-place g l = Follows (λ holds. AreSatisfied holds l.self.clauses.now) l.fn.trail.literals.items l.trail.literals.items false
+invariant-loop-place g l = Follows (λ holds. AreSatisfied holds l.self.clauses.now) l.fn.trail.literals.items
+    l.trail.literals.items false

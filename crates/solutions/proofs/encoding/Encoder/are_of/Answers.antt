@@ -7,12 +7,16 @@ use Rattle.solutions.proofs.encoding.Encoder.are_of.Goals as goal
 
 pub loop-solvable-preserved : goal.loop-solvable-preserved
 loop-solvable-preserved g c =
-    let Named = λ (s : g.row.D-SolvableId.Denot). (g.D.Interner.universe c.args.self.now.provider.now).solvable_name s ≡ c.args.name in
+    let Named = λ (s : g.row.D-SolvableId.Denot). (g.D.Interner.universe c.args.self.now.provider.now).solvable_name
+    s ≡ c.args.name in
     let yes : c.is_of.result ≡ true = search rules in
-    next_holds Named c.args.solvables.now c.loop-solvable.solvable-index c.solvable-item.result c.loop-solvable-test.true c.solvable-item.is
+    next_holds Named c.args.solvables.now c.loop-solvable.solvable-index c.solvable-item.result
+    c.loop-solvable-test.true c.solvable-item.is
     (c.is_of.ensures yes) c.loop-solvable.invariant
 
 pub returns : goal.returns
 returns g c = λ yes.
-    let Named = λ (s : g.row.D-SolvableId.Denot). (g.D.Interner.universe c.args.self.now.provider.now).solvable_name s ≡ c.args.name in
-    subst (All Named) (take_all c.loop-solvable.solvable-index c.args.solvables.now c.loop-solvable-test.false) c.loop-solvable.invariant
+    let Named = λ (s : g.row.D-SolvableId.Denot). (g.D.Interner.universe c.args.self.now.provider.now).solvable_name
+    s ≡ c.args.name in
+    subst (All Named) (take_all c.loop-solvable.solvable-index c.args.solvables.now c.loop-solvable-test.false)
+    c.loop-solvable.invariant

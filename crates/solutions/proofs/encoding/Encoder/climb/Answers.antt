@@ -11,8 +11,10 @@ use Rattle.solutions.proofs.encoding.Encoder.climb.Goals as goal
 
 -- the provider's functions
 abbrev provided : (g : Over) → g.row.D.Denot → Provider g.row.D-NameId.Denot g.row.D-SolvableId.Denot
-provided g = gathered g.D.NameId.PartialEq.eq g.D.SolvableId.PartialEq.eq g.D.NameId.Slots.IdMap.is_too_large g.D.SolvableId.Slots.IdMap.is_too_large
-    g.D.SolvableId.Set.IdSet.is_too_large g.D.NameId.SolverId.are_many g.D.Interner.universe g.D.DependencyProvider.answers
+provided g = gathered g.D.NameId.PartialEq.eq g.D.SolvableId.PartialEq.eq g.D.NameId.Slots.IdMap.is_too_large
+    g.D.SolvableId.Slots.IdMap.is_too_large
+    g.D.SolvableId.Set.IdSet.is_too_large g.D.NameId.SolverId.are_many g.D.Interner.universe
+    g.D.DependencyProvider.answers
 
 pub loop-place-init : goal.loop-place-init
 loop-place-init g c =
@@ -39,18 +41,24 @@ loop-place-preserved g c =
     let one = c.say_next.new.theory.clauses.items in
     let two = c.say_not_both.new.theory.clauses.items in
     let more : take (i + 1) versions ≡ take i versions ++ v ∷ [] =
-    take_more versions i v c.loop-place-test.true ∙ ap (λ y. take i versions ++ y ∷ []) (sym c.index-versions-place.is) in
+    take_more versions i v c.loop-place-test.true
+    ∙ ap (λ y. take i versions ++ y ∷ []) (sym c.index-versions-place.is) in
     record {
       before = c.in_ok-next.ensures;
-      seen = rw more (one_more g.D.SolvableId.PartialEq.eq g.met.D.SolvableId.Eq.laws.refl g.met.D.SolvableId.SameValue.same
+      seen = rw more (one_more g.D.SolvableId.PartialEq.eq g.met.D.SolvableId.Eq.laws.refl
+          g.met.D.SolvableId.SameValue.same
           _ _ (take i versions) v so_far.seen c.in_ok-is_new.ensures.ok);
       still = L.still_then p One start now two so_far.still (L.still_then p One now one two
           (L.still_where p (λ q. truth p q next ≡ (truth p q before || truth p q version)) One now one
-          (λ q has. next_is p c.args.name versions c.requires.all i v c.loop-place-test.true c.index-versions-place.is before version so_far.before
+          (λ q has. next_is p c.args.name versions c.requires.all i v c.loop-place-test.true
+          c.index-versions-place.is before version so_far.before
           c.in_ok-atom.ensures.fact next c.in_ok-next.ensures q) c.in_ok-say_next.ensures)
-          (L.still_where p (λ q. c.in_ok-is_new.is_new ≡ true → (truth p q before && truth p q version) ≡ false) One one two
-          (λ q has. not_both_so p c.args.name versions c.requires.all i v c.loop-place-test.true c.index-versions-place.is before version so_far.before
-          c.in_ok-atom.ensures.fact g.met.D.SolvableId.Eq.laws.refl c.requires.named (g.D.SolvableId.Set.IdSet.has c.loop-place.seen v) c.in_ok-is_new.is_new
+          (L.still_where p (λ q. c.in_ok-is_new.is_new ≡ true → (truth p q before && truth p q version) ≡ false) One
+          one two
+          (λ q has. not_both_so p c.args.name versions c.requires.all i v c.loop-place-test.true
+          c.index-versions-place.is before version so_far.before
+          c.in_ok-atom.ensures.fact g.met.D.SolvableId.Eq.laws.refl c.requires.named
+          (g.D.SolvableId.Set.IdSet.has c.loop-place.seen v) c.in_ok-is_new.is_new
           (so_far.seen v) c.in_ok-is_new.ensures.added q has) c.in_ok-say_not_both.ensures));
     }
 

@@ -8,8 +8,10 @@ use Rattle.solutions.proofs.encoding.Encoder.forbid.Goals as goal
 
 -- the provider's functions
 abbrev provided : (g : Over) → g.row.D.Denot → Provider g.row.D-NameId.Denot g.row.D-SolvableId.Denot
-provided g = gathered g.D.NameId.PartialEq.eq g.D.SolvableId.PartialEq.eq g.D.NameId.Slots.IdMap.is_too_large g.D.SolvableId.Slots.IdMap.is_too_large
-    g.D.SolvableId.Set.IdSet.is_too_large g.D.NameId.SolverId.are_many g.D.Interner.universe g.D.DependencyProvider.answers
+provided g = gathered g.D.NameId.PartialEq.eq g.D.SolvableId.PartialEq.eq g.D.NameId.Slots.IdMap.is_too_large
+    g.D.SolvableId.Slots.IdMap.is_too_large
+    g.D.SolvableId.Set.IdSet.is_too_large g.D.NameId.SolverId.are_many g.D.Interner.universe
+    g.D.DependencyProvider.answers
 
 pub returns : goal.returns
 returns g c =
@@ -19,6 +21,7 @@ returns g c =
     let fact = ap (λ k. k.fact) c.new.ensures ∙ c.in_ok-atom.ensures.fact in
     let value = ap (λ k. k.value) c.new.ensures in
     done c.add_unit.result
-    (λ stated. L.still_added p (λ picked. is_among p picked s ≡ false) c.args.theory.now.clauses.items c.add_unit.new.self.clauses.items (l ∷ []) stated
+    (λ stated. L.still_added p (λ picked. is_among p picked s ≡ false) c.args.theory.now.clauses.items
+    c.add_unit.new.self.clauses.items (l ∷ []) stated
     (L.true_where_unpicked p l s fact value))
     c.add_unit.ensures

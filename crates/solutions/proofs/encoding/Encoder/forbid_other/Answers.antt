@@ -10,8 +10,10 @@ use Rattle.solutions.proofs.encoding.Encoder.forbid_other.Goals as goal
 
 -- the provider's functions
 abbrev provided : (g : Over) → g.row.D.Denot → Provider g.row.D-NameId.Denot g.row.D-SolvableId.Denot
-provided g = gathered g.D.NameId.PartialEq.eq g.D.SolvableId.PartialEq.eq g.D.NameId.Slots.IdMap.is_too_large g.D.SolvableId.Slots.IdMap.is_too_large
-    g.D.SolvableId.Set.IdSet.is_too_large g.D.NameId.SolverId.are_many g.D.Interner.universe g.D.DependencyProvider.answers
+provided g = gathered g.D.NameId.PartialEq.eq g.D.SolvableId.PartialEq.eq g.D.NameId.Slots.IdMap.is_too_large
+    g.D.SolvableId.Slots.IdMap.is_too_large
+    g.D.SolvableId.Set.IdSet.is_too_large g.D.NameId.SolverId.are_many g.D.Interner.universe
+    g.D.DependencyProvider.answers
 
 pub returns : goal.returns
 returns g c =
@@ -22,5 +24,6 @@ returns g c =
     done c.forbid.result
     (L.still_where p (λ picked. is_among p picked s ≡ false) (λ picked. IsOnlyOne p picked c.args.locked)
     c.args.theory.now.clauses.items c.forbid.new.theory.clauses.items
-    (λ picked. other_unpicked p g.met.D.SolvableId.Eq.laws.refl c.args.locked s picked differs (c.is_of.ensures of_it ∙ c.solvable_name.ensures)))
+    (λ picked. other_unpicked p g.met.D.SolvableId.Eq.laws.refl c.args.locked s picked differs (c.is_of.ensures of_it
+    ∙ c.solvable_name.ensures)))
     c.forbid.ensures

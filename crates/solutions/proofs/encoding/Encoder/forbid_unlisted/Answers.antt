@@ -10,8 +10,10 @@ use Rattle.solutions.proofs.encoding.Encoder.forbid_unlisted.Goals as goal
 
 -- the provider's functions
 abbrev provided : (g : Over) → g.row.D.Denot → Provider g.row.D-NameId.Denot g.row.D-SolvableId.Denot
-provided g = gathered g.D.NameId.PartialEq.eq g.D.SolvableId.PartialEq.eq g.D.NameId.Slots.IdMap.is_too_large g.D.SolvableId.Slots.IdMap.is_too_large
-    g.D.SolvableId.Set.IdSet.is_too_large g.D.NameId.SolverId.are_many g.D.Interner.universe g.D.DependencyProvider.answers
+provided g = gathered g.D.NameId.PartialEq.eq g.D.SolvableId.PartialEq.eq g.D.NameId.Slots.IdMap.is_too_large
+    g.D.SolvableId.Slots.IdMap.is_too_large
+    g.D.SolvableId.Set.IdSet.is_too_large g.D.NameId.SolverId.are_many g.D.Interner.universe
+    g.D.DependencyProvider.answers
 
 pub returns : goal.returns
 returns g c =
@@ -21,5 +23,6 @@ returns g c =
     done c.forbid.result
     (L.still_where p (λ picked. is_among p picked s ≡ false) (λ picked. All (λ t. is_allowed p t ≡ true) picked)
     c.args.theory.now.clauses.items c.forbid.new.theory.clauses.items
-    (λ picked. unpicked_where_not_allowed p g.met.D.SolvableId.SameValue.same s picked (sym c.in_ok-is_allowed.ensures.ok ∙ no)))
+    (λ picked. unpicked_where_not_allowed p g.met.D.SolvableId.SameValue.same s picked
+    (sym c.in_ok-is_allowed.ensures.ok ∙ no)))
     c.forbid.ensures

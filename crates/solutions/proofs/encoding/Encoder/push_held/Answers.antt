@@ -9,8 +9,10 @@ use Rattle.solutions.proofs.encoding.Encoder.push_held.Goals as goal
 
 -- the provider's functions
 abbrev provided : (g : Over) → g.row.D.Denot → Provider g.row.D-NameId.Denot g.row.D-SolvableId.Denot
-provided g = gathered g.D.NameId.PartialEq.eq g.D.SolvableId.PartialEq.eq g.D.NameId.Slots.IdMap.is_too_large g.D.SolvableId.Slots.IdMap.is_too_large
-    g.D.SolvableId.Set.IdSet.is_too_large g.D.NameId.SolverId.are_many g.D.Interner.universe g.D.DependencyProvider.answers
+provided g = gathered g.D.NameId.PartialEq.eq g.D.SolvableId.PartialEq.eq g.D.NameId.Slots.IdMap.is_too_large
+    g.D.SolvableId.Slots.IdMap.is_too_large
+    g.D.SolvableId.Set.IdSet.is_too_large g.D.NameId.SolverId.are_many g.D.Interner.universe
+    g.D.DependencyProvider.answers
 
 pub returns : goal.returns
 returns g c =
@@ -18,5 +20,6 @@ returns g c =
     done c.push_picked.result
     (λ has. L.or_same p (λ q. list_any (is_among p q) c.deref.result.now) (λ q. has_picked p (is_among p q) c.args.set)
     c.args.clause.now.items c.push_picked.new.clause.items
-    (λ q. L.held_where_known p c.args.set c.deref.result.now q c.in_ok-held.ensures.known (c.deref.ensures.value ∙ c.in_ok-held.ensures.found)) has)
+    (λ q. L.held_where_known p c.args.set c.deref.result.now q c.in_ok-held.ensures.known (c.deref.ensures.value
+    ∙ c.in_ok-held.ensures.found)) has)
     c.push_picked.ensures

@@ -9,8 +9,10 @@ use Rattle.solutions.proofs.encoding.Encoder.push_picked.Goals as goal
 
 -- the provider's functions
 abbrev provided : (g : Over) → g.row.D.Denot → Provider g.row.D-NameId.Denot g.row.D-SolvableId.Denot
-provided g = gathered g.D.NameId.PartialEq.eq g.D.SolvableId.PartialEq.eq g.D.NameId.Slots.IdMap.is_too_large g.D.SolvableId.Slots.IdMap.is_too_large
-    g.D.SolvableId.Set.IdSet.is_too_large g.D.NameId.SolverId.are_many g.D.Interner.universe g.D.DependencyProvider.answers
+provided g = gathered g.D.NameId.PartialEq.eq g.D.SolvableId.PartialEq.eq g.D.NameId.Slots.IdMap.is_too_large
+    g.D.SolvableId.Slots.IdMap.is_too_large
+    g.D.SolvableId.Set.IdSet.is_too_large g.D.NameId.SolverId.are_many g.D.Interner.universe
+    g.D.DependencyProvider.answers
 
 pub loop-solvable-init : goal.loop-solvable-init
 loop-solvable-init g c =
@@ -27,7 +29,8 @@ loop-solvable-preserved g c =
     let fact = ap (λ k. k.fact) c.new.ensures ∙ c.in_ok-atom.ensures.fact in
     let value = ap (λ k. k.value) c.new.ensures in
     let pushed : c.push.new.self.items ≡ c.loop-solvable.clause.items ++ l ∷ [] = search rules in
-    L.or_then p (λ q. list_any (is_among p q) (take i xs)) (λ q. is_among p q x) (λ q. list_any (is_among p q) (take (i + 1) xs))
+    L.or_then p (λ q. list_any (is_among p q) (take i xs)) (λ q. is_among p q x)
+    (λ q. list_any (is_among p q) (take (i + 1) xs))
     c.args.clause.now.items c.loop-solvable.clause.items c.push.new.self.items
     (λ q. L.any_more (is_among p q) xs i x c.loop-solvable-test.true c.solvable-item.is) c.loop-solvable.invariant
     (L.or_one p (λ q. is_among p q x) c.loop-solvable.clause.items c.push.new.self.items l pushed
@@ -36,6 +39,9 @@ loop-solvable-preserved g c =
 pub returns : goal.returns
 returns g c =
     let p = provided g c.args.self.now.provider.now in
-    L.or_same p (λ q. list_any (is_among p q) (take c.loop-solvable.solvable-index c.args.solvables.now)) (λ q. list_any (is_among p q) c.args.solvables.now)
+    L.or_same p (λ q. list_any (is_among p q) (take c.loop-solvable.solvable-index c.args.solvables.now))
+    (λ q. list_any (is_among p q) c.args.solvables.now)
     c.args.clause.now.items c.loop-solvable.clause.items
-    (λ q. ap (list_any (is_among p q)) (take_all c.loop-solvable.solvable-index c.args.solvables.now c.loop-solvable-test.false)) c.loop-solvable.invariant
+    (λ q. ap (list_any (is_among p q))
+    (take_all c.loop-solvable.solvable-index c.args.solvables.now c.loop-solvable-test.false))
+    c.loop-solvable.invariant

@@ -8,6 +8,9 @@ use Rattle.solutions.proofs.encoding.Encoder.push_picked.Given as goal
 abbrev pub invariant-loop-solvable : goal.invariant-loop-solvable
 invariant-loop-solvable g l =
     let D = g.D in
-    let p = gathered D.NameId.PartialEq.eq D.SolvableId.PartialEq.eq D.NameId.Slots.IdMap.is_too_large D.SolvableId.Slots.IdMap.is_too_large
-    D.SolvableId.Set.IdSet.is_too_large D.NameId.SolverId.are_many D.Interner.universe D.DependencyProvider.answers l.self.provider.now in
-    HasTrueOr p (λ picked. list_any (is_among p picked) (take l.solvable-index l.solvables)) l.fn.clause.items l.clause.items
+    let p = gathered D.NameId.PartialEq.eq D.SolvableId.PartialEq.eq D.NameId.Slots.IdMap.is_too_large
+    D.SolvableId.Slots.IdMap.is_too_large
+    D.SolvableId.Set.IdSet.is_too_large D.NameId.SolverId.are_many D.Interner.universe D.DependencyProvider.answers
+    l.self.provider.now in
+    HasTrueOr p (λ picked. list_any (is_among p picked) (take l.solvable-index l.solvables)) l.fn.clause.items
+    l.clause.items

@@ -9,8 +9,10 @@ use Rattle.solutions.proofs.encoding.Encoder.push_satisfied.Goals as goal
 
 -- the provider's functions
 abbrev provided : (g : Over) → g.row.D.Denot → Provider g.row.D-NameId.Denot g.row.D-SolvableId.Denot
-provided g = gathered g.D.NameId.PartialEq.eq g.D.SolvableId.PartialEq.eq g.D.NameId.Slots.IdMap.is_too_large g.D.SolvableId.Slots.IdMap.is_too_large
-    g.D.SolvableId.Set.IdSet.is_too_large g.D.NameId.SolverId.are_many g.D.Interner.universe g.D.DependencyProvider.answers
+provided g = gathered g.D.NameId.PartialEq.eq g.D.SolvableId.PartialEq.eq g.D.NameId.Slots.IdMap.is_too_large
+    g.D.SolvableId.Slots.IdMap.is_too_large
+    g.D.SolvableId.Set.IdSet.is_too_large g.D.NameId.SolverId.are_many g.D.Interner.universe
+    g.D.DependencyProvider.answers
 
 pub returns : goal.returns
 returns g c =
@@ -18,7 +20,8 @@ returns g c =
     let knows : c.knows.result ≡ true = search rules in
     let sets = c.as_slice.result.now in
     done c.push_any_held.result
-    (λ has. L.or_same p (λ q. list_any (has_picked p (is_among p q)) sets) (λ q. is_satisfied p (is_among p q) c.args.requirement)
+    (λ has. L.or_same p (λ q. list_any (has_picked p (is_among p q)) sets)
+    (λ q. is_satisfied p (is_among p q) c.args.requirement)
     c.args.clause.now.items c.push_any_held.new.clause.items
     (λ q. L.satisfied_where_known p c.args.requirement sets q (sym c.knows.ensures ∙ knows) (search rules)) has)
     c.push_any_held.ensures

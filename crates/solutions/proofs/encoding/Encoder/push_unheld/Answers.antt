@@ -10,14 +10,17 @@ use Rattle.solutions.proofs.encoding.Encoder.push_unheld.Goals as goal
 
 -- the provider's functions
 abbrev provided : (g : Over) → g.row.D.Denot → Provider g.row.D-NameId.Denot g.row.D-SolvableId.Denot
-provided g = gathered g.D.NameId.PartialEq.eq g.D.SolvableId.PartialEq.eq g.D.NameId.Slots.IdMap.is_too_large g.D.SolvableId.Slots.IdMap.is_too_large
-    g.D.SolvableId.Set.IdSet.is_too_large g.D.NameId.SolverId.are_many g.D.Interner.universe g.D.DependencyProvider.answers
+provided g = gathered g.D.NameId.PartialEq.eq g.D.SolvableId.PartialEq.eq g.D.NameId.Slots.IdMap.is_too_large
+    g.D.SolvableId.Slots.IdMap.is_too_large
+    g.D.SolvableId.Set.IdSet.is_too_large g.D.NameId.SolverId.are_many g.D.Interner.universe
+    g.D.DependencyProvider.answers
 
 pub loop-set-init : goal.loop-set-init
 loop-set-init g c =
     let p = provided g c.args.self.now.provider.now in
     record {
-      clause = L.or_none p (λ picked. not (list_all (has_picked p (is_among p picked)) [])) c.args.clause.now.items (λ picked. refl);
+      clause = L.or_none p (λ picked. not (list_all (has_picked p (is_among p picked)) [])) c.args.clause.now.items
+          (λ picked. refl);
       theory = L.still p (λ picked. ⊤) c.args.theory.now.clauses.items;
     }
 
@@ -32,12 +35,18 @@ loop-set-preserved g c =
     let value = ap (λ k. k.value) c.new.ensures in
     let pushed : c.push.new.self.items ≡ c.loop-set.clause.items ++ l ∷ [] = search rules in
     record {
-      clause = L.or_then p (λ q. not (list_all (has_picked p (is_among p q)) (take i sets))) (λ q. not (has_picked p (is_among p q) set))
-          (λ q. not (list_all (has_picked p (is_among p q)) (take (i + 1) sets))) c.args.clause.now.items c.loop-set.clause.items c.push.new.self.items
-          (λ q. L.not_all_more (has_picked p (is_among p q)) sets i set c.loop-set-test.true (L.own_default c.args.held.now c.loop-set.set-index (record { 0 = 0 }) c.loop-set-test.true)) c.loop-set.invariant.clause
-          (L.or_one p (λ q. not (has_picked p (is_among p q) set)) c.loop-set.clause.items c.push.new.self.items l pushed
+      clause = L.or_then p (λ q. not (list_all (has_picked p (is_among p q)) (take i sets)))
+          (λ q. not (has_picked p (is_among p q) set))
+          (λ q. not (list_all (has_picked p (is_among p q)) (take (i + 1) sets))) c.args.clause.now.items
+          c.loop-set.clause.items c.push.new.self.items
+          (λ q. L.not_all_more (has_picked p (is_among p q)) sets i set c.loop-set-test.true
+          (L.own_default c.args.held.now c.loop-set.set-index (record { 0 = 0 }) c.loop-set-test.true))
+          c.loop-set.invariant.clause
+          (L.or_one p (λ q. not (has_picked p (is_among p q) set)) c.loop-set.clause.items c.push.new.self.items l
+          pushed
           (λ q. L.unheld_literal p l set fact value q));
-      theory = L.still_then p (λ picked. ⊤) c.args.theory.now.clauses.items c.loop-set.theory.clauses.items c.held.new.theory.clauses.items
+      theory = L.still_then p (λ picked. ⊤) c.args.theory.now.clauses.items c.loop-set.theory.clauses.items
+          c.held.new.theory.clauses.items
           c.loop-set.invariant.theory c.in_ok-atom.ensures.theory;
     }
 
@@ -45,9 +54,12 @@ pub returns : goal.returns
 returns g c =
     let p = provided g c.args.self.now.provider.now in
     record {
-      clause = L.or_same p (λ q. not (list_all (has_picked p (is_among p q)) (take c.loop-set.set-index c.args.held.now)))
-          (λ q. not (list_all (has_picked p (is_among p q)) c.args.held.now)) c.args.clause.now.items c.loop-set.clause.items
-          (λ q. ap (λ sets. not (list_all (has_picked p (is_among p q)) sets)) (take_all c.loop-set.set-index c.args.held.now c.loop-set-test.false))
+      clause = L.or_same p (λ q. not (list_all (has_picked p (is_among p q))
+          (take c.loop-set.set-index c.args.held.now)))
+          (λ q. not (list_all (has_picked p (is_among p q)) c.args.held.now)) c.args.clause.now.items
+          c.loop-set.clause.items
+          (λ q. ap (λ sets. not (list_all (has_picked p (is_among p q)) sets))
+          (take_all c.loop-set.set-index c.args.held.now c.loop-set-test.false))
           c.loop-set.invariant.clause;
       theory = c.loop-set.invariant.theory;
     }

@@ -9,8 +9,10 @@ use Rattle.solutions.proofs.encoding.Encoder.say_all.Goals as goal
 
 -- the provider's functions
 abbrev provided : (g : Over) → g.row.D.Denot → Provider g.row.D-NameId.Denot g.row.D-SolvableId.Denot
-provided g = gathered g.D.NameId.PartialEq.eq g.D.SolvableId.PartialEq.eq g.D.NameId.Slots.IdMap.is_too_large g.D.SolvableId.Slots.IdMap.is_too_large
-    g.D.SolvableId.Set.IdSet.is_too_large g.D.NameId.SolverId.are_many g.D.Interner.universe g.D.DependencyProvider.answers
+provided g = gathered g.D.NameId.PartialEq.eq g.D.SolvableId.PartialEq.eq g.D.NameId.Slots.IdMap.is_too_large
+    g.D.SolvableId.Slots.IdMap.is_too_large
+    g.D.SolvableId.Set.IdSet.is_too_large g.D.NameId.SolverId.are_many g.D.Interner.universe
+    g.D.DependencyProvider.answers
 
 pub loop-reason-init : goal.loop-reason-init
 loop-reason-init g c =
@@ -23,7 +25,10 @@ loop-reason-preserved g c =
     let reasons = c.args.reasons.now in
     let r = c.reason-item.result in
     let AreMet = λ (picked : List g.row.D-SolvableId.Denot). All (IsMet p picked) reasons in
-    L.still_then p AreMet c.args.theory.now.clauses.items c.loop-reason.theory.clauses.items c.say.new.theory.clauses.items c.loop-reason.invariant
-    (L.still_where p (λ picked. IsMet p picked r) AreMet c.loop-reason.theory.clauses.items c.say.new.theory.clauses.items
-    (λ picked all. one_of_all (IsMet p picked) reasons c.loop-reason.reason-index r c.loop-reason-test.true c.reason-item.is all)
+    L.still_then p AreMet c.args.theory.now.clauses.items c.loop-reason.theory.clauses.items
+    c.say.new.theory.clauses.items c.loop-reason.invariant
+    (L.still_where p (λ picked. IsMet p picked r) AreMet c.loop-reason.theory.clauses.items
+    c.say.new.theory.clauses.items
+    (λ picked all. one_of_all (IsMet p picked) reasons c.loop-reason.reason-index r c.loop-reason-test.true
+    c.reason-item.is all)
     c.in_ok-say.ensures)

@@ -10,8 +10,10 @@ use Rattle.solutions.proofs.encoding.Encoder.say_next.Goals as goal
 
 -- the provider's functions
 abbrev provided : (g : Over) → g.row.D.Denot → Provider g.row.D-NameId.Denot g.row.D-SolvableId.Denot
-provided g = gathered g.D.NameId.PartialEq.eq g.D.SolvableId.PartialEq.eq g.D.NameId.Slots.IdMap.is_too_large g.D.SolvableId.Slots.IdMap.is_too_large
-    g.D.SolvableId.Set.IdSet.is_too_large g.D.NameId.SolverId.are_many g.D.Interner.universe g.D.DependencyProvider.answers
+provided g = gathered g.D.NameId.PartialEq.eq g.D.SolvableId.PartialEq.eq g.D.NameId.Slots.IdMap.is_too_large
+    g.D.SolvableId.Slots.IdMap.is_too_large
+    g.D.SolvableId.Set.IdSet.is_too_large g.D.NameId.SolverId.are_many g.D.Interner.universe
+    g.D.DependencyProvider.answers
 
 pub returns : goal.returns
 returns g c =
@@ -27,9 +29,11 @@ returns g c =
     done c.add_binary-2.result
     (λ stated. L.still_then p IsNext old one two
     (L.still_added p IsNext old one (so ∷ c.new.result ∷ []) c.in_ok-add_binary.ensures
-    (λ q is. so_where p so c.new.result q (truth p q next) (truth p q before) (ap (is_true (truth p q)) c.new-so.ensures) (ap (is_true (truth p q)) c.new.ensures)
+    (λ q is. so_where p so c.new.result q (truth p q next) (truth p q before)
+    (ap (is_true (truth p q)) c.new-so.ensures) (ap (is_true (truth p q)) c.new.ensures)
     (λ yes. is ∙ ap (λ b. b || truth p q version) yes)))
     (L.still_added p IsNext one two (so ∷ c.new-2.result ∷ []) stated
-    (λ q is. so_where p so c.new-2.result q (truth p q next) (truth p q version) (ap (is_true (truth p q)) c.new-so.ensures) (ap (is_true (truth p q)) c.new-2.ensures)
+    (λ q is. so_where p so c.new-2.result q (truth p q next) (truth p q version)
+    (ap (is_true (truth p q)) c.new-so.ensures) (ap (is_true (truth p q)) c.new-2.ensures)
     (λ yes. is ∙ ap (λ b. truth p q before || b) yes ∙ or_true (truth p q before)))))
     c.add_binary-2.ensures

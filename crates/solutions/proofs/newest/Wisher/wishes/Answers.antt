@@ -11,8 +11,10 @@ use Rattle.solutions.proofs.newest.Wisher.wishes.Goals as goal
 
 -- the provider's functions
 abbrev provided : (g : Over) → g.row.D.Denot → Provider g.row.D-NameId.Denot g.row.D-SolvableId.Denot
-provided g = gathered g.D.NameId.PartialEq.eq g.D.SolvableId.PartialEq.eq g.D.NameId.Slots.IdMap.is_too_large g.D.SolvableId.Slots.IdMap.is_too_large
-    g.D.SolvableId.Set.IdSet.is_too_large g.D.NameId.SolverId.are_many g.D.Interner.universe g.D.DependencyProvider.answers
+provided g = gathered g.D.NameId.PartialEq.eq g.D.SolvableId.PartialEq.eq g.D.NameId.Slots.IdMap.is_too_large
+    g.D.SolvableId.Slots.IdMap.is_too_large
+    g.D.SolvableId.Set.IdSet.is_too_large g.D.NameId.SolverId.are_many g.D.Interner.universe
+    g.D.DependencyProvider.answers
 
 pub loop-requirement-preserved : goal.loop-requirement-preserved
 loop-requirement-preserved g c =
@@ -21,10 +23,13 @@ loop-requirement-preserved g c =
     let i = c.loop-requirement.requirement-index in
     let default : Requirement = Single (record { 0 = 0 }) in
     let pushed : c.push.new.self.items ≡ c.loop-requirement.wishes.items ++ c.in_ok-wish.wish ∷ [] = search rules in
-    next_wish requirements i (get_or requirements i default) c.loop-requirement-test.true (own_default requirements i default c.loop-requirement-test.true)
-    wish c.loop-requirement.wishes.items c.push.new.self.items c.in_ok-wish.wish c.loop-requirement.invariant pushed c.in_ok-wish.ensures
+    next_wish requirements i (get_or requirements i default) c.loop-requirement-test.true
+    (own_default requirements i default c.loop-requirement-test.true)
+    wish c.loop-requirement.wishes.items c.push.new.self.items c.in_ok-wish.wish c.loop-requirement.invariant pushed
+    c.in_ok-wish.ensures
 
 pub returns : goal.returns
 returns g c =
-    c.loop-requirement.invariant ∙ ap (map (wish_for (provided g c.args.self.now.provider.now) c.args.self.now.needed.items))
+    c.loop-requirement.invariant ∙ ap
+    (map (wish_for (provided g c.args.self.now.provider.now) c.args.self.now.needed.items))
     (take_all c.loop-requirement.requirement-index c.args.requirements.now c.loop-requirement-test.false)

@@ -8,7 +8,8 @@ pub returns-clause-refuted : goal.returns-clause-refuted
 returns-clause-refuted g c =
     let clauses = c.args.self.now.theory.clauses.items in
     answered_where c.refute.result
-    (λ yes back refuted e. refuted_still clauses c.rules.result.clauses.now c.args.self.now.trail.literals.items c.refute.new.trail.literals.items
+    (λ yes back refuted e. refuted_still clauses c.rules.result.clauses.now c.args.self.now.trail.literals.items
+    c.refute.new.trail.literals.items
     c.args.literals.now c.args.literals.now c.rules.ensures back refl (refuted e))
     c.refute.ensures.rolled_back c.refute.ensures.refuted
 

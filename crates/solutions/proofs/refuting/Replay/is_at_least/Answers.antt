@@ -22,15 +22,19 @@ loop-place-preserved g c =
     let yes : c.in_ok-are_refuted.field-0 ≡ true = search rules in
     let so_far = c.loop-place.invariant in
     record {
-      at_least = at_least_range cs ks ds es ls ms literals c.in-Some.better.now place c.in-Some.ensures.lookup.0.1 c.in-Some.ensures.lookup.0.2
-          so_far.replayed c.in_ok-are_refuted.ensures.replayed (c.in_ok-are_refuted.ensures.refuted yes) so_far.at_least;
+      at_least = at_least_range cs ks ds es ls ms literals c.in-Some.better.now place c.in-Some.ensures.lookup.0.1
+          c.in-Some.ensures.lookup.0.2
+          so_far.replayed c.in_ok-are_refuted.ensures.replayed (c.in_ok-are_refuted.ensures.refuted yes)
+          so_far.at_least;
       replayed = replayed_then cs ks ds ls es ms false false so_far.replayed c.in_ok-are_refuted.ensures.replayed;
     }
 
 pub returns-then-not-branch-clause-replayed : goal.returns-then-not-branch-clause-replayed
 returns-then-not-branch-clause-replayed g c =
-    replayed_then c.args.self.now.theory.clauses.items c.args.self.now.trail.literals.items c.loop-place.self.theory.clauses.items
-    c.loop-place.self.trail.literals.items c.are_refuted.new.self.theory.clauses.items c.are_refuted.new.self.trail.literals.items false false
+    replayed_then c.args.self.now.theory.clauses.items c.args.self.now.trail.literals.items
+    c.loop-place.self.theory.clauses.items
+    c.loop-place.self.trail.literals.items c.are_refuted.new.self.theory.clauses.items
+    c.are_refuted.new.self.trail.literals.items false false
     c.loop-place.invariant.replayed c.in_ok-are_refuted.ensures.replayed
 
 pub returns-in_default-clause-replayed : goal.returns-in_default-clause-replayed

@@ -7,5 +7,6 @@ abbrev pub invariant-loop-place : goal.invariant-loop-place
 invariant-loop-place g l =
     record {
       at_least : IsAtLeast l.fn.self.theory.clauses.items l.fn.self.trail.literals.items l.literals l.place;
-      replayed : Replayed l.fn.self.theory.clauses.items l.fn.self.trail.literals.items l.self.theory.clauses.items l.self.trail.literals.items false;
+      replayed : Replayed l.fn.self.theory.clauses.items l.fn.self.trail.literals.items l.self.theory.clauses.items
+          l.self.trail.literals.items false;
     }

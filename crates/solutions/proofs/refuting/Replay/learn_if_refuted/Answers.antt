@@ -17,6 +17,7 @@ returns g c =
     let between = c.are_refuted.new.self in
     let now = c.learn.new.self in
     answered c.learn.result
-    (λ answer. replayed_then old.theory.clauses.items old.trail.literals.items between.theory.clauses.items between.trail.literals.items
+    (λ answer. replayed_then old.theory.clauses.items old.trail.literals.items between.theory.clauses.items
+    between.trail.literals.items
     now.theory.clauses.items now.trail.literals.items false answer c.in_ok-are_refuted.ensures.replayed)
     c.learn.ensures

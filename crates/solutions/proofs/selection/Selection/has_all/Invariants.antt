@@ -8,6 +8,9 @@ use Rattle.solutions.proofs.selection.Selection.has_all.Given as goal
 abbrev pub invariant-loop-set : goal.invariant-loop-set
 invariant-loop-set g l =
     let D = g.D in
-    let p = gathered D.NameId.PartialEq.eq D.SolvableId.PartialEq.eq D.NameId.Slots.IdMap.is_too_large D.SolvableId.Slots.IdMap.is_too_large
-    D.SolvableId.Set.IdSet.is_too_large D.NameId.SolverId.are_many D.Interner.universe D.DependencyProvider.answers l.self.provider.now in
-    list_all (has_picked p (is_kept D.SolvableId.PartialEq.eq (D.SolvableId.Set.IdSet.has l.self.picked) l.self.left_out)) (take l.set-index l.sets) ≡ true
+    let p = gathered D.NameId.PartialEq.eq D.SolvableId.PartialEq.eq D.NameId.Slots.IdMap.is_too_large
+    D.SolvableId.Slots.IdMap.is_too_large
+    D.SolvableId.Set.IdSet.is_too_large D.NameId.SolverId.are_many D.Interner.universe D.DependencyProvider.answers
+    l.self.provider.now in
+    list_all (has_picked p (is_kept D.SolvableId.PartialEq.eq
+    (D.SolvableId.Set.IdSet.has l.self.picked) l.self.left_out)) (take l.set-index l.sets) ≡ true

@@ -10,21 +10,28 @@ use Rattle.solutions.proofs.selection.Selection.has_some.Goals as goal
 
 -- the provider's functions
 abbrev provided : (g : Over) → g.row.D.Denot → Provider g.row.D-NameId.Denot g.row.D-SolvableId.Denot
-provided g = gathered g.D.NameId.PartialEq.eq g.D.SolvableId.PartialEq.eq g.D.NameId.Slots.IdMap.is_too_large g.D.SolvableId.Slots.IdMap.is_too_large
-    g.D.SolvableId.Set.IdSet.is_too_large g.D.NameId.SolverId.are_many g.D.Interner.universe g.D.DependencyProvider.answers
+provided g = gathered g.D.NameId.PartialEq.eq g.D.SolvableId.PartialEq.eq g.D.NameId.Slots.IdMap.is_too_large
+    g.D.SolvableId.Slots.IdMap.is_too_large
+    g.D.SolvableId.Set.IdSet.is_too_large g.D.NameId.SolverId.are_many g.D.Interner.universe
+    g.D.DependencyProvider.answers
 
 pub loop-set-preserved : goal.loop-set-preserved
 loop-set-preserved g c =
-    let test = has_picked (provided g c.args.self.now.provider.now) (is_kept g.D.SolvableId.PartialEq.eq (g.D.SolvableId.Set.IdSet.has c.args.self.now.picked) c.args.self.now.left_out) in
+    let test = has_picked (provided g c.args.self.now.provider.now)
+    (is_kept g.D.SolvableId.PartialEq.eq (g.D.SolvableId.Set.IdSet.has c.args.self.now.picked)
+    c.args.self.now.left_out) in
     let sets = c.args.sets.now in
     let i = c.loop-set.set-index in
     let set = get_or sets i (record { 0 = 0 }) in
     let more : c.in_ok-has_picked.field-0 ≡ false = search rules in
-    list_any_more test sets i (record { 0 = 0 }) c.loop-set-test.true ∙ ap (λ b. b || test set) c.loop-set.invariant ∙ sym c.in_ok-has_picked.ensures.ok ∙ more
+    list_any_more test sets i (record { 0 = 0 }) c.loop-set-test.true ∙ ap (λ b. b || test set) c.loop-set.invariant
+    ∙ sym c.in_ok-has_picked.ensures.ok ∙ more
 
 pub returns-then-branch-clause-ok : goal.returns-then-branch-clause-ok
 returns-then-branch-clause-ok g c =
-    let test = has_picked (provided g c.args.self.now.provider.now) (is_kept g.D.SolvableId.PartialEq.eq (g.D.SolvableId.Set.IdSet.has c.args.self.now.picked) c.args.self.now.left_out) in
+    let test = has_picked (provided g c.args.self.now.provider.now)
+    (is_kept g.D.SolvableId.PartialEq.eq (g.D.SolvableId.Set.IdSet.has c.args.self.now.picked)
+    c.args.self.now.left_out) in
     let sets = c.args.sets.now in
     let i = c.loop-set.set-index in
     let last : c.in_ok-has_picked.field-0 ≡ true = search rules in
@@ -32,7 +39,9 @@ returns-then-branch-clause-ok g c =
 
 pub returns-clause-ok : goal.returns-clause-ok
 returns-clause-ok g c =
-    let test = has_picked (provided g c.args.self.now.provider.now) (is_kept g.D.SolvableId.PartialEq.eq (g.D.SolvableId.Set.IdSet.has c.args.self.now.picked) c.args.self.now.left_out) in
+    let test = has_picked (provided g c.args.self.now.provider.now)
+    (is_kept g.D.SolvableId.PartialEq.eq (g.D.SolvableId.Set.IdSet.has c.args.self.now.picked)
+    c.args.self.now.left_out) in
     let sets = c.args.sets.now in
     let i = c.loop-set.set-index in
     sym (ap (list_any test) (sym (take_all i sets c.loop-set-test.false)) ∙ c.loop-set.invariant)

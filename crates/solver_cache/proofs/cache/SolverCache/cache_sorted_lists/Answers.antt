@@ -9,7 +9,14 @@ use Rattle.solver_cache.proofs.cache.SolverCache.cache_sorted_lists.Goals as goa
 pub returns-in-Single-clause-answered : goal.returns-in-Single-clause-answered
 returns-in-Single-clause-answered g c =
     rw c.in-Single.is (IfOk-weaker c.sort_all.result _ _
-    (λ ids done. record { sorted = done.sorted; lists = done.lists; later = done.later; queried = done.queried; fit = done.fit })
+    (λ ids done. record {
+      sorted = done.sorted;
+      lists = done.lists;
+      later = done.later;
+      queried = done.queried;
+      fit =
+          done.fit;
+    })
     c.sort_all.ensures.answered)
 
 pub returns-in_err-sets-in-Union-clause-refused : goal.returns-in_err-sets-in-Union-clause-refused

@@ -10,7 +10,8 @@ pub dependencies-requires : goal.dependencies-requires
 dependencies-requires g c =
     let cached = c.cache_dependencies.new.self.dependencies in
     let answer = c.in_ok-id.ensures.answered.answer in
-    let within : c.in_ok-id.id < length (values_of cached) = slice_get_within (values_of cached) c.in_ok-id.id answer.0 answer.1 in
+    let within : c.in_ok-id.id < length (values_of cached) =
+    slice_get_within (values_of cached) c.in_ok-id.id answer.0 answer.1 in
     omega (arith, within, length-map cached (λ e. e.1))
 
 pub returns-clause-answer : goal.returns-clause-answer

@@ -10,7 +10,8 @@ use Rattle.solver_cache.specs.Cache.{is_set_queried}
 use Rattle.solver_cache.specs.Functions.{Provider, gathered}
 use Rattle.solver_cache.specs.Outcomes.{AnswersSorted, RefusesSorted}
 use Rattle.solver_cache.specs.declared.error.CacheError.TheVariants.{Store}
-use Rattle.solver_cache.proofs.CacheLemmas.{handed_on, later_same, later_trans, asked_later, sorted_push, refused_in_turn}
+use Rattle.solver_cache.proofs.CacheLemmas.{handed_on, later_same, later_trans, asked_later, sorted_push}
+use Rattle.solver_cache.proofs.CacheLemmas.{refused_in_turn}
 use Rattle.solver_cache.proofs.IdLemmas.{all_asked_fit}
 use Rattle.solver_cache.proofs.ListedLemmas.{listed_push}
 use Rattle.solver_cache.proofs.UnansweredLemmas.{left_in_turn, none_sorted}
@@ -19,8 +20,10 @@ use Rattle.solver_cache.proofs.cache.SolverCache.sort_all.Goals as goal
 
 -- the provider's functions
 abbrev provided : (g : Over) → g.row.D.Denot → Provider g.row.D-NameId.Denot g.row.D-SolvableId.Denot
-provided g = gathered g.D.NameId.PartialEq.eq g.D.SolvableId.PartialEq.eq g.D.NameId.Slots.IdMap.is_too_large g.D.SolvableId.Slots.IdMap.is_too_large
-    g.D.SolvableId.Set.IdSet.is_too_large g.D.NameId.SolverId.are_many g.D.Interner.universe g.D.DependencyProvider.answers
+provided g = gathered g.D.NameId.PartialEq.eq g.D.SolvableId.PartialEq.eq g.D.NameId.Slots.IdMap.is_too_large
+    g.D.SolvableId.Slots.IdMap.is_too_large
+    g.D.SolvableId.Set.IdSet.is_too_large g.D.NameId.SolverId.are_many g.D.Interner.universe
+    g.D.DependencyProvider.answers
 
 abbrev none : VersionSetId
 none = record { 0 = 0 }
@@ -46,10 +49,13 @@ returns-in_err-id-clause-refused g c =
     let new = c.cache_sorted_candidates_for_version_set.new.self in
     let e = c.in_err-id.field-0.0 in
     let refused : RefusesSorted p (may old.provider) has mid (get_or sets i none) e new =
-    subst (λ q. RefusesSorted (provided g q) (may q) has mid (get_or sets i none) e new) before.later.provider c.in_err-id.ensures.refused in
+    subst (λ q. RefusesSorted (provided g q) (may q) has mid (get_or sets i none) e new) before.later.provider
+    c.in_err-id.ensures.refused in
     handed_on _ c.from_residual-in_err-id.result e c.from_residual-in_err-id.ensures.1 (record {
-      reason = refused_in_turn has p old mid new before.later refused.later sets i none c.loop-set-test.true e refused.reason;
-      left = left_in_turn p (may old.provider) has sets i none c.loop-set-test.true old mid new before.in_turn _ e refused.reason refused.left;
+      reason = refused_in_turn has p old mid new before.later refused.later sets i none c.loop-set-test.true e
+          refused.reason;
+      left = left_in_turn p (may old.provider) has sets i none c.loop-set-test.true old mid new before.in_turn _ e
+          refused.reason refused.left;
       later = later_trans has old mid new before.later refused.later;
     })
 
@@ -67,12 +73,14 @@ loop-set-preserved g c =
     let new = c.cache_sorted_candidates_for_version_set.new.self in
     let id = c.in_ok-id.id in
     let answered : AnswersSorted p (may old.provider) has mid v id new =
-    subst (λ q. AnswersSorted (provided g q) (may q) has mid v id new) before.later.provider c.in_ok-id.ensures.answered in
+    subst (λ q. AnswersSorted (provided g q) (may q) has mid v id new) before.later.provider
+    c.in_ok-id.ensures.answered in
     let more : take (i + 1) sets ≡ take i sets ++ v ∷ [] = take_more sets i none c.loop-set-test.true in
     rw more (record {
       in_turn = sorted_push has p (may old.provider) (take i sets) v old mid new before.in_turn answered.sorted;
       listed = rw c.push_reserved.ensures.items
-          (listed_push has p mid new c.loop-set.ids.items (take i sets) id v answered.later before.listed answered.list);
+          (listed_push has p mid new c.loop-set.ids.items (take i sets) id v answered.later before.listed
+          answered.list);
       later = later_trans has old mid new before.later answered.later;
       queried = All-push (λ w. is_set_queried p new w ≡ true) (take i sets) v
           (λ k d lt. asked_later has p _ mid new answered.later (before.queried k d lt)) answered.queried;
@@ -106,7 +114,8 @@ returns-clause-answered g c =
       lists = grind (arith, common_steps);
       later = grind (arith, common_steps);
       queried = grind (arith, common_steps);
-      fit = subst (λ q. list_any (λ v. (provided g q).is_large_name ((provided g q).universe.set_name v)) sets ≡ false) same
+      fit = subst (λ q. list_any (λ v. (provided g q).is_large_name ((provided g q).universe.set_name v)) sets
+          ≡ false) same
           (all_asked_fit _ _ c.self-2.invariant g.met.D.NameId.SameValue.same sets
           (subst (λ st. All (λ v. is_set_queried (provided g inside) st v ≡ true) sets) (sym c.self-2.view_is)
           (subst (λ q. All (λ v. is_set_queried (provided g q) end v ≡ true) sets) (sym same) queried)));

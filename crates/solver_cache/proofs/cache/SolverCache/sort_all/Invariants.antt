@@ -10,8 +10,10 @@ invariant-loop-set g l =
     let D = g.D in
     let has = D.SolvableId.Set.IdSet.has in
     let old = l.initial.self in
-    let p = gathered D.NameId.PartialEq.eq D.SolvableId.PartialEq.eq D.NameId.Slots.IdMap.is_too_large D.SolvableId.Slots.IdMap.is_too_large
-    D.SolvableId.Set.IdSet.is_too_large D.NameId.SolverId.are_many D.Interner.universe D.DependencyProvider.answers old.provider in
+    let p = gathered D.NameId.PartialEq.eq D.SolvableId.PartialEq.eq D.NameId.Slots.IdMap.is_too_large
+    D.SolvableId.Slots.IdMap.is_too_large
+    D.SolvableId.Set.IdSet.is_too_large D.NameId.SolverId.are_many D.Interner.universe D.DependencyProvider.answers
+    old.provider in
     let done = take l.set-index l.sets in
     record {
       in_turn : AreSorted p (D.DependencyProvider.may_answer old.provider) has old done l.self;

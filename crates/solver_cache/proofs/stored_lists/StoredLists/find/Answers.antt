@@ -6,7 +6,8 @@ use Rattle.solver_cache.proofs.stored_lists.StoredLists.find.Goals as goal
 
 pub returns-clause-found : goal.returns-clause-found
 returns-clause-found g c =
-    rw (sym c.self.view_is) (c.get_index_of.ensures.found ∙ found (λ l. l.items) (g.K.PartialEq.eq c.args.key) c.self.inside.lists.entries)
+    rw (sym c.self.view_is) (c.get_index_of.ensures.found
+    ∙ found (λ l. l.items) (g.K.PartialEq.eq c.args.key) c.self.inside.lists.entries)
 
 pub returns-clause-list : goal.returns-clause-list
 returns-clause-list g c =

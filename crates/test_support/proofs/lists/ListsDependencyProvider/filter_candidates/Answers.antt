@@ -7,5 +7,6 @@ pub returns-clause-ok : goal.returns-clause-ok
 returns-clause-ok g c =
     let ranges = c.args.self.now.listed.ranges.items in
     let known : c.args.set.0 < length ranges = search rules in
-    let range : c.index-range.result.now ≡ range_at ranges c.args.set = c.index-range.ensures ∙ get_or_default ranges c.args.set.0 _ _ known in
+    let range : c.index-range.result.now ≡ range_at ranges c.args.set = c.index-range.ensures
+    ∙ get_or_default ranges c.args.set.0 _ _ known in
     rw (sym range, sym c.deref.ensures.value) c.within.ensures.ok

@@ -31,7 +31,13 @@ module _ (Z : Al) where
 
   -- nothing is kept of a parameter to the end: each is a copy, of which the caller has its own
   abbrev stayed : Stays ended.signature.params ended.kept
-  stayed = (stay_dropped (self Z) yes, (stay_dropped (plain (λ _. usize)) yes, (stay_dropped (plain (λ _. usize)) yes, tt)))
+  stayed = (
+    stay_dropped (self Z) yes,
+    (
+      stay_dropped (plain (λ _. usize)) yes,
+      (stay_dropped (plain (λ _. usize)) yes, tt),
+    ),
+  )
 
 module _ (Z : Al) {M : Type 1} {𝓤 : Ura M} (𝓛 : Logic 𝓤) (𝓜 : Model 𝓤 𝓛.H) (𝓡 : Running 𝓤 𝓛.H 𝓜) where
   open 𝓛 use {H}
@@ -56,7 +62,16 @@ module _ (Z : Al) {M : Type 1} {𝓤 : Ura M} (𝓛 : Logic 𝓤) (𝓜 : Model 
 
     -- all that the contract leaves open, chosen
     abbrev y : Walk.Ghost
-    y = (((κ, (κ', tt)), (q, (q', tt)), (within, tt), (r, (n, (k, tt))), (shr_vals r, (vint w64 n ∷ [], (vint w64 k ∷ [], tt)))), τ)
+    y = (
+      (
+        (κ, (κ', tt)),
+        (q, (q', tt)),
+        (within, tt),
+        (r, (n, (k, tt))),
+        (shr_vals r, (vint w64 n ∷ [], (vint w64 k ∷ [], tt))),
+      ),
+      τ,
+    )
 
     -- the inner handle and the address of each field
     abbrev handle : Z.row.Denot
@@ -92,12 +107,14 @@ module _ (Z : Al) {M : Type 1} {𝓤 : Ura M} (𝓛 : Logic 𝓤) (𝓜 : Model 
     -- a refusal goes out with nothing, whoever refused
     refused : Sq 𝓛 (‵ (flft κ q) ∷ (‵ (flft κ' q') ⊛ ‵ ftrue) ∷ []) (prop (Walk.post y (answer_val false 0 0)))
     refused =
-        nothing ! $ use0 𝓛 (‵ (Answer.own_val (Err (record {})) (answer_val false 0 0 ∷ []))) (Answer-err 𝓛) $ use0 𝓛 (‵ (nothing_of 3)) (leaves_nothing 𝓛 3) $
+        nothing ! $ use0 𝓛 (‵ (Answer.own_val (Err (record {})) (answer_val false 0 0 ∷ []))) (Answer-err 𝓛) $ use0 𝓛
+        (‵ (nothing_of 3)) (leaves_nothing 𝓛 3) $
         move ! (3 ∷ 4 ∷ []) $ join ! $ by ! (leaves 𝓛 (ended Z) (stayed Z) clauses y (answer_val false 0 0)
         (Err (record {})) (tt, (tt, (tt, tt))) (tt, (tt, (tt, tt))))
 
     -- the code, a statement at a time, from the contracts of the two functions that it calls
-    walk : Triple 𝓤 (𝓣.C refuses.name) (Asks 𝓛 𝓜.mem 𝓡.returns) → Triple 𝓤 (𝓣.C (takes_key Z)) (Takes Z 𝓛 𝓜.mem 𝓡.returns)
+    walk : Triple 𝓤 (𝓣.C refuses.name) (Asks 𝓛 𝓜.mem 𝓡.returns) →
+        Triple 𝓤 (𝓣.C (takes_key Z)) (Takes Z 𝓛 𝓜.mem 𝓡.returns)
         → n < 2 ^ 64 → k < 2 ^ 64 → ent 𝓤 (Walk.pre y) (WpFn 𝓤 H 𝓣.C 𝓣.Λ (here Z) vs (Walk.post y))
     walk asks takes n_fits k_fits =
         qed 𝓛 (((‵ (flft κ q) ⊛ ‵ (flft κ' q') ⊛ ‵ ftrue) ⊛ ‵
@@ -106,7 +123,8 @@ module _ (Z : Al) {M : Type 1} {𝓤 : Ura M} (𝓛 : Logic 𝓤) (𝓜 : Model 
         -- what the trait lets the body assume: the handle is alive, and n and k are the size and the alignment of τ
         move ! (1 ∷ []) $ split ! $ heard ! (κ' ⊑ Z.row.lives) (λ alive. heard ! Fits (λ fits.
         -- `&self` gives a `&` to each field; nothing is owned of the two numbers
-        split ! $ split ! $ move ! (2 ∷ []) $ fsplit ! $ use1 𝓛 (‵ (seen Z κ p handle) ⊛ ‵ (counts κ c)) (self_shares Z 𝓛 κ r) $ split ! $
+        split ! $ split ! $ move ! (2 ∷ []) $ fsplit ! $ use1 𝓛 (‵ (seen Z κ p handle) ⊛ ‵ (counts κ c))
+        (self_shares Z 𝓛 κ r) $ split ! $
         keep ! (1 ∷ 3 ∷ 0 ∷ 4 ∷ []) $
         -- [the counter; the token of κ; the inner handle; the token of κ'], and after them the locals
         enter ! 𝓣.C 𝓣.Λ (here Z) vs (Walk.post y) $ alloc_all ! (λ l.
@@ -124,7 +142,8 @@ module _ (Z : Al) {M : Type 1} {𝓤 : Ura M} (𝓛 : Logic 𝓤) (𝓜 : Model 
         (agg ! (and_then ! (lit ! tt) (and_then ! (get ! refl) (no_more !)))) refl (Answer-typed false 0 0) $
         returns_within ! (Walk.post y) refl (look_at ! 0 refl) $ free_all ! refl $ keep ! (0 ∷ 2 ∷ []) $ refused)
         -- no: the arm is over, and the code after it runs
-        (λ _. skips ! $ exec ! 𝓣.C 𝓣.Λ (env (here Z).locals l) (after 3 (here Z).body) (at_ret (env (here Z).locals l) (Walk.post y)) $ move ! (1 ∷ []) $
+        (λ _. skips ! $ exec ! 𝓣.C 𝓣.Λ (env (here Z).locals l) (after 3 (here Z).body)
+        (at_ret (env (here Z).locals l) (Walk.post y)) $ move ! (1 ∷ []) $
         -- [the inner handle; the token of κ; the token of κ']
         -- self.inner.allocate(size, align)
         sets ! (addr ! (through ! refl (fld ! refl (stop !)))) refl (tt, tt) $
@@ -137,8 +156,10 @@ module _ (Z : Al) {M : Type 1} {𝓤 : Ura M} (𝓛 : Logic 𝓤) (𝓜 : Model 
         (Takes-gives Z 𝓛 𝓜.mem 𝓡.returns κ q p handle n k τ v) $ await ! tt $ split ! $
         -- and that answer is the answer, a block or a refusal
         answers Z ! 𝓜.mem 𝓡.returns handle τ v
-        (λ b o is. lands_as ! is refl (Answer-typed true b o) $ returns ! (look_at ! 0 refl) $ free_all ! refl $ granted b o)
-        (λ is. lands_as ! is refl (Answer-typed false 0 0) $ returns ! (look_at ! 0 refl) $ free_all ! refl $ refused)))))))))
+        (λ b o is. lands_as ! is refl (Answer-typed true b o) $ returns !
+        (look_at ! 0 refl) $ free_all ! refl $ granted b o)
+        (λ is. lands_as ! is refl (Answer-typed false 0 0) $ returns !
+        (look_at ! 0 refl) $ free_all ! refl $ refused)))))))))
 
 -- The walk is taken to the statement: what becomes of each parameter, the code under its name, how a parameter's value
 -- is stored, and the walk.
@@ -146,9 +167,14 @@ pub allocate_spec : {M : Type 1} → statement M
 allocate_spec 𝓤 𝓛 𝓜 𝓡 wired B laws g d drops met _ =
     let Z : Al = record { row = B; laws = laws; g = g; d = d; drops = drops } in
     let number = Goes-dropped 𝓛 2 (plain (λ _. usize)) yes (λ κs x w. refl) in
-    proved 𝓛 (ended Z) (stayed Z) (clauses Z 𝓛 𝓜 𝓡) 𝓜 𝓡 (Goes-dropped 𝓛 2 (self Z) yes (λ κs x w. refl), (number, (number, tt)))
-    (f.Key.name (bounded (a_type ∷ []) (B, tt) (dcons d (dcons drops dnil)))) (here Z) (code.unfolded 𝓤 𝓛.H 𝓜 𝓡 wired (B, tt) d drops)
-    (λ κs. (shr_vals, (uint_vals w64, (uint_vals w64, tt)))) (λ κs. ((λ r vs s. s.0), (uint_Tells w64, (uint_Tells w64, tt)))) (λ κs qs bounds a τ are.
+    proved 𝓛 (ended Z) (stayed Z) (clauses Z 𝓛 𝓜 𝓡) 𝓜 𝓡 (
+      Goes-dropped 𝓛 2 (self Z) yes (λ κs x w. refl),
+      (number, (number, tt)),
+    )
+    (f.Key.name (bounded (a_type ∷ []) (B, tt) (dcons d (dcons drops dnil)))) (here Z)
+    (code.unfolded 𝓤 𝓛.H 𝓜 𝓡 wired (B, tt) d drops)
+    (λ κs. (shr_vals, (uint_vals w64, (uint_vals w64, tt))))
+    (λ κs. ((λ r vs s. s.0), (uint_Tells w64, (uint_Tells w64, tt)))) (λ κs qs bounds a τ are.
     walk Z 𝓛 𝓜 𝓡 κs.0 κs.1.0 qs.0 qs.1.0 bounds.0 a.0 a.1.0 a.1.1.0 τ
     (refuses_met 𝓤 𝓛 𝓜 𝓡 (code.calls-test_support::refusing::refuses 𝓡.env wired))
     (met.allocate drops) are.1.0.1 are.1.1.0.1)

@@ -59,7 +59,16 @@ module _ (Z : Al) {M : Type 1} {𝓤 : Ura M} (𝓛 : Logic 𝓤) (𝓜 : Model 
 
     -- all that the contract leaves open, chosen
     abbrev y : Ptr → Walk.Ghost
-    y x = (((κ, (κ', tt)), (q, (q', tt)), (within, tt), (r, (x, (n, (k, tt)))), (shr_vals r, (rawptr_vals x, (vint w64 n ∷ [], (vint w64 k ∷ [], tt))))), τ)
+    y x = (
+      (
+        (κ, (κ', tt)),
+        (q, (q', tt)),
+        (within, tt),
+        (r, (x, (n, (k, tt)))),
+        (shr_vals r, (rawptr_vals x, (vint w64 n ∷ [], (vint w64 k ∷ [], tt)))),
+      ),
+      τ,
+    )
 
     abbrev handle : Z.row.Denot
     handle = r.now.inner
@@ -70,32 +79,41 @@ module _ (Z : Al) {M : Type 1} {𝓤 : Ura M} (𝓛 : Logic 𝓤) (𝓜 : Model 
 
     -- the tokens, beside what the parameters own
     abbrev entry : Ptr → Item 𝓤
-    entry x = (‵ (flft κ q) ⊛ ‵ (flft κ' q') ⊛ ‵ ftrue) ⊛ ‵ (owns (types_at (ended Z).signature.params (y x).0.0) (y x).0.3 (y x).0.4)
+    entry x = (‵ (flft κ q) ⊛ ‵ (flft κ' q') ⊛ ‵ ftrue) ⊛ ‵
+        (owns (types_at (ended Z).signature.params (y x).0.0) (y x).0.3 (y x).0.4)
 
     -- How the walk ends: nothing goes out but the tokens. Their order is that of `leaves`: the tokens, what is left of
     -- the parameters, the answer, the `ensures`.
     freed : (x : Ptr) → Sq 𝓛 (‵ (flft κ q) ∷ (‵ (flft κ' q') ⊛ ‵ ftrue) ∷ []) (prop (Walk.post (y x) vunit))
     freed x =
         nothing ! $ feq_i ! (List Val) (vunit ∷ []) (vunit ∷ []) refl $ use0 𝓛 (‵ (nothing_of 4)) (leaves_nothing 𝓛 4) $
-        move ! (3 ∷ 4 ∷ []) $ join ! $ by ! (leaves 𝓛 (ended Z) (stayed Z) clauses (y x) vunit tt (tt, (tt, (tt, (tt, tt)))) (tt, (tt, (tt, (tt, tt)))))
+        move ! (3 ∷ 4 ∷ []) $ join ! $ by ! (leaves 𝓛 (ended Z) (stayed Z) clauses (y x) vunit tt (
+          tt,
+          (tt, (tt, (tt, tt))),
+        ) (tt, (tt, (tt, (tt, tt)))))
 
     -- the code, a statement at a time, from the contract of the function that it calls
     walk : Triple 𝓤 (𝓣.C (gives_key Z)) (Gives Z 𝓛 𝓜.mem 𝓡.returns)
-        → n < 2 ^ 64 → k < 2 ^ 64 → (x : Ptr) → ent 𝓤 (Walk.pre (y x)) (WpFn 𝓤 H 𝓣.C 𝓣.Λ (here Z) (vs x) (Walk.post (y x)))
+        → n < 2 ^ 64 → k < 2 ^ 64 → (x : Ptr) →
+        ent 𝓤 (Walk.pre (y x)) (WpFn 𝓤 H 𝓣.C 𝓣.Λ (here Z) (vs x) (Walk.post (y x)))
     -- no block lies at null, so the `requires` is false there
     walk gives n_fits k_fits null_ptr =
-        qed 𝓛 (entry null_ptr ∷ (raw (fact 𝓤 (κ' ⊑ Z.row.lives)) ⊛ raw (fact 𝓤 Fits) ⊛ ‵ (fsep ffalse (token Z handle τ null_ptr))) ∷ []) ∵
+        qed 𝓛 (entry null_ptr ∷ (raw (fact 𝓤 (κ' ⊑ Z.row.lives)) ⊛ raw (fact 𝓤 Fits) ⊛ ‵
+        (fsep ffalse (token Z handle τ null_ptr))) ∷ []) ∵
         move ! (1 ∷ []) $ split3 ! $ move ! (2 ∷ []) $ fsplit ! $ keep ! (0 ∷ []) $ by ! (never_e 𝓤 _)
     walk gives n_fits k_fits (block_ptr b o) =
         let x : Ptr = block_ptr b o in
         let p : ℕ × ℕ = inner_at Z r.ref_ptr in
         let given_back = at_gives Z 𝓛 𝓜.mem 𝓡.returns κ q p handle b o n k τ in
-        qed 𝓛 (entry x ∷ (raw (fact 𝓤 (κ' ⊑ Z.row.lives)) ⊛ raw (fact 𝓤 Fits) ⊛ ‵ (fsep (froom τ b o) (token Z handle τ x))) ∷ []) ∵
+        qed 𝓛 (entry x ∷ (raw (fact 𝓤 (κ' ⊑ Z.row.lives)) ⊛ raw (fact 𝓤 Fits) ⊛ ‵
+        (fsep (froom τ b o) (token Z handle τ x))) ∷ []) ∵
         -- what the trait lets the body assume: the handle is alive, n and k are the size and the alignment of τ, and
         -- the block is the caller's
-        move ! (1 ∷ []) $ split3 ! $ heard ! (κ' ⊑ Z.row.lives) (λ alive. heard ! Fits (λ fits. fsplit ! $ move ! (2 ∷ []) $
+        move ! (1 ∷ []) $ split3 ! $ heard ! (κ' ⊑ Z.row.lives)
+        (λ alive. heard ! Fits (λ fits. fsplit ! $ move ! (2 ∷ []) $
         -- `&self` gives a `&` to each field; nothing is owned of the pointer and the two numbers
-        split ! $ split ! $ move ! (2 ∷ []) $ fsplit ! $ use1 𝓛 (‵ (seen Z κ p handle) ⊛ ‵ (counts κ (left_at Z r.ref_ptr))) (self_shares Z 𝓛 κ r) $ split ! $
+        split ! $ split ! $ move ! (2 ∷ []) $ fsplit ! $ use1 𝓛
+        (‵ (seen Z κ p handle) ⊛ ‵ (counts κ (left_at Z r.ref_ptr))) (self_shares Z 𝓛 κ r) $ split ! $
         keep ! (5 ∷ 6 ∷ 0 ∷ 3 ∷ 4 ∷ []) $
         -- [the block's room; the right to free it; the inner handle; the token of κ; the token of κ'], and after them
         -- the locals
@@ -122,9 +140,16 @@ pub deallocate_spec : {M : Type 1} → statement M
 deallocate_spec 𝓤 𝓛 𝓜 𝓡 wired B laws g d drops met _ =
     let Z : Al = record { row = B; laws = laws; g = g; d = d; drops = drops } in
     let number = Goes-dropped 𝓛 2 (plain (λ _. usize)) yes (λ κs x w. refl) in
-    proved 𝓛 (ended Z) (stayed Z) (clauses Z 𝓛 𝓜 𝓡) 𝓜 𝓡
-    (Goes-dropped 𝓛 2 (self Z) yes (λ κs x w. refl), (Goes-dropped 𝓛 2 (plain (λ _. RawPtr)) yes (λ κs x w. refl), (number, (number, tt))))
-    (f.Key.name (bounded (a_type ∷ []) (B, tt) (dcons d (dcons drops dnil)))) (here Z) (code.unfolded 𝓤 𝓛.H 𝓜 𝓡 wired (B, tt) d drops)
+    proved 𝓛 (ended Z) (stayed Z) (clauses Z 𝓛 𝓜 𝓡) 𝓜 𝓡 (
+      Goes-dropped 𝓛 2 (self Z) yes (λ κs x w. refl),
+      (
+        Goes-dropped 𝓛 2 (plain (λ _. RawPtr)) yes (λ κs x w. refl),
+        (number, (number, tt)),
+      ),
+    )
+    (f.Key.name (bounded (a_type ∷ []) (B, tt) (dcons d (dcons drops dnil)))) (here Z)
+    (code.unfolded 𝓤 𝓛.H 𝓜 𝓡 wired (B, tt) d drops)
     (λ κs. (shr_vals, (rawptr_vals, (uint_vals w64, (uint_vals w64, tt))))) (λ κs.
     ((λ r vs s. s.0), (rawptr_Tells, (uint_Tells w64, (uint_Tells w64, tt))))) (λ κs qs bounds a τ are.
-    walk Z 𝓛 𝓜 𝓡 κs.0 κs.1.0 qs.0 qs.1.0 bounds.0 a.0 a.1.1.0 a.1.1.1.0 τ (met.deallocate drops) are.1.1.0.1 are.1.1.1.0.1 a.1.0)
+    walk Z 𝓛 𝓜 𝓡 κs.0 κs.1.0 qs.0 qs.1.0 bounds.0 a.0 a.1.1.0 a.1.1.1.0 τ
+    (met.deallocate drops) are.1.1.0.1 are.1.1.1.0.1 a.1.0)

@@ -11,7 +11,8 @@ invariant_of-self-2 g c =
     let same = g.S.PartialEq.eq in
     let os = c.self.inside.origins.items in
     let absent : variable_of_solvable same os c.args.solvable ≡ None =
-    ap (λ l. variable_of_solvable same l c.args.solvable) c.self.view_is ∙ sym c.lookup_solvable.ensures.variable ∙ c.in_default.is in
+    ap (λ l. variable_of_solvable same l c.args.solvable) c.self.view_is ∙ sym c.lookup_solvable.ensures.variable
+    ∙ c.in_default.is in
     let size : c.len-index.result ≡ length os = c.len-index.ensures ∙ c.self.inside.origins.ok.0 in
     let below : c.len-index.result < 2147483647 = search rules in
     rw c.in_ok-push.ensures.items record {
@@ -20,7 +21,8 @@ invariant_of-self-2 g c =
           (c.put.ensures.put.0 ∙ c.new.ensures, c.put.ensures.put.1);
       few = simp length-append (omega (arith, size, below));
       root_first = root-append os _ c.self.invariant.root_first;
-      distinct = distinct-new same g.met.S.Eq.laws.refl g.met.S.SameValue.same c.args.solvable os absent c.self.invariant.distinct;
+      distinct = distinct-new same g.met.S.Eq.laws.refl g.met.S.SameValue.same c.args.solvable os absent
+          c.self.invariant.distinct;
     }
 
 -- a refusal comes only where the solvable has no variable
@@ -53,12 +55,14 @@ invariant_of-self-in_err-push g c =
 pub returns-clause-variable : goal.returns-clause-variable
 returns-clause-variable g c =
     c.from_index.ensures ∙ (c.len-index.ensures ∙ (c.self.inside.origins.ok.0 ∙ (ap length c.self.view_is
-    ∙ sym (interned_variable-new g.S.PartialEq.eq c.args.solvable c.args.self.now (sym c.lookup_solvable.ensures.variable ∙ c.in_default.is)))))
+    ∙ sym (interned_variable-new g.S.PartialEq.eq c.args.solvable c.args.self.now
+    (sym c.lookup_solvable.ensures.variable ∙ c.in_default.is)))))
 
 pub returns-clause-ok : goal.returns-clause-ok
 returns-clause-ok g c =
     c.in_ok-push.ensures.items ∙ (ap (λ os. os ++ Solvable c.args.solvable ∷ []) c.self.view_is
-    ∙ sym (with_variable-new g.S.PartialEq.eq c.args.solvable c.args.self.now (sym c.lookup_solvable.ensures.variable ∙ c.in_default.is)))
+    ∙ sym (with_variable-new g.S.PartialEq.eq c.args.solvable c.args.self.now (sym c.lookup_solvable.ensures.variable
+    ∙ c.in_default.is)))
 
 pub put-requires : goal.put-requires
 put-requires g c = grind (arith, common_steps)

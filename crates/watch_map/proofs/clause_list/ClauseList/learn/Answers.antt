@@ -21,7 +21,8 @@ returns-in_err-alloc-clause-refused g c =
     let inside = c.self-2.inside in
     let learnt : List (List Lit) = map (λ v. v.items) inside.learnt in
     let as_many : length inside.learnt ≡ length learnt = sym (length-map inside.learnt _) in
-    learnt_refused c.from_residual-in_err-alloc.result (contents c.args.self.now) (length inside.learnt) c.in_err-alloc.field-0.0.error
+    learnt_refused c.from_residual-in_err-alloc.result (contents c.args.self.now)
+    (length inside.learnt) c.in_err-alloc.field-0.0.error
     (as_many ∙ ap (λ (k : ClauseListState g.row.N.Denot). length k.learnt) c.self-2.view_is
     ∙ ap (λ (cs : Clauses g.row.N.Denot). length cs.learnt) c.make_room.ensures.same)
     c.in_err-alloc.ensures.refused c.from_residual-in_err-alloc.ensures.1

@@ -11,7 +11,8 @@ pub returns-clause-same : goal.returns-clause-same
 returns-clause-same g c =
     let inside = c.self.inside in
     let learnt : List (List Lit) = map (λ v. v.items) inside.learnt in
-    seen_alike inside.clauses.items c.reserve.new.self.items inside.watches.items c.reserve-2.new.self.items learnt inside.map
+    seen_alike inside.clauses.items c.reserve.new.self.items inside.watches.items c.reserve-2.new.self.items learnt
+    inside.map
     c.make_rooms.new.map c.self.invariant.1 c.reserve.ensures.items c.reserve-2.ensures.items c.make_rooms.ensures.lists
     ∙ ap contents c.self.view_is
 
@@ -30,37 +31,50 @@ returns-clause-room g c =
     let as_many = ap length c.reserve-2.ensures.items
     ∙ sym (as_many_records inside.clauses.items learnt inside.watches.items inside.map c.self.invariant.0)
     ∙ sym (ap length c.reserve.ensures.items) in
-    let clauses = subst (λ n. n + length c.args.clauses.now ≤ vec_capacity c.reserve.new.self) c.reserve.new.self.ok.0 c.in_ok-reserve.ensures.ok in
-    let records = subst (λ n. n + length c.args.clauses.now ≤ vec_capacity c.reserve-2.new.self) c.reserve-2.new.self.ok.0 c.in_ok-reserve-2.ensures.ok in
+    let clauses = subst (λ n. n + length c.args.clauses.now ≤ vec_capacity c.reserve.new.self)
+    c.reserve.new.self.ok.0 c.in_ok-reserve.ensures.ok in
+    let records = subst (λ n. n + length c.args.clauses.now ≤ vec_capacity c.reserve-2.new.self)
+    c.reserve-2.new.self.ok.0 c.in_ok-reserve-2.ensures.ok in
     rooms_are_made c.make_rooms.result new (length c.args.clauses.now) c.args.clauses.now
-    (ids_are_left (length inside.clauses.items) (length c.reserve.new.self.items) (length c.args.clauses.now) c.len.result
-    c.if-clauses-len.false (c.len.ensures ∙ inside.clauses.ok.0) (ap length c.reserve.ensures.items) c.self.invariant.0.few)
+    (ids_are_left (length inside.clauses.items) (length c.reserve.new.self.items)
+    (length c.args.clauses.now) c.len.result
+    c.if-clauses-len.false (c.len.ensures ∙ inside.clauses.ok.0)
+    (ap length c.reserve.ensures.items) c.self.invariant.0.few)
     as_many clauses records
     c.make_rooms.ensures.room
 
 pub returns-clause-keeps : goal.returns-clause-keeps
 returns-clause-keeps g c =
     room_stays _ _ (c.reserve.ensures.items ∙ ap (λ (k : ClauseListState g.row.N.Denot). k.clauses) c.self.view_is)
-    (subst (λ (k : ClauseListState g.row.N.Denot). k.clause_room ≤ vec_capacity c.reserve.new.self) c.self.view_is c.reserve.ensures.capacity)
-    (subst (λ (k : ClauseListState g.row.N.Denot). k.record_room ≤ vec_capacity c.reserve-2.new.self) c.self.view_is c.reserve-2.ensures.capacity)
-    (subst (λ (k : ClauseListState g.row.N.Denot). KeepsRoom k.lists c.make_rooms.new.map) c.self.view_is c.make_rooms.ensures.rooms)
+    (subst (λ (k : ClauseListState g.row.N.Denot). k.clause_room ≤ vec_capacity c.reserve.new.self) c.self.view_is
+    c.reserve.ensures.capacity)
+    (subst (λ (k : ClauseListState g.row.N.Denot). k.record_room ≤ vec_capacity c.reserve-2.new.self) c.self.view_is
+    c.reserve-2.ensures.capacity)
+    (subst (λ (k : ClauseListState g.row.N.Denot). KeepsRoom k.lists c.make_rooms.new.map) c.self.view_is
+    c.make_rooms.ensures.rooms)
 
 pub invariant_of-self-2 : goal.invariant_of-self-2
 invariant_of-self-2 g c =
     let inside = c.self.inside in
     let learnt : List (List Lit) = map (λ v. v.items) inside.learnt in
-    let kept = still_kept inside.clauses.items c.reserve.new.self.items learnt inside.watches.items c.reserve-2.new.self.items
-    inside.map c.make_rooms.new.map c.self.invariant.0 c.self.invariant.1 c.reserve.ensures.items c.reserve-2.ensures.items
+    let kept = still_kept inside.clauses.items c.reserve.new.self.items learnt inside.watches.items
+    c.reserve-2.new.self.items
+    inside.map c.make_rooms.new.map c.self.invariant.0 c.self.invariant.1 c.reserve.ensures.items
+    c.reserve-2.ensures.items
     c.make_rooms.ensures.lists in (
       kept.0,
       kept.1,
-      subst (λ rs. AreUnwatchedBelow rs inside.unwatched.bound inside.unwatched.ids.items) (sym c.reserve-2.ensures.items)
+      subst (λ rs. AreUnwatchedBelow rs inside.unwatched.bound inside.unwatched.ids.items)
+          (sym c.reserve-2.ensures.items)
           c.self.invariant.2,
     )
 
 pub returns-in_err-reserve-2-clause-keeps : goal.returns-in_err-reserve-2-clause-keeps
 returns-in_err-reserve-2-clause-keeps g c =
     room_stays _ _ (c.reserve.ensures.items ∙ ap (λ (k : ClauseListState g.row.N.Denot). k.clauses) c.self.view_is)
-    (subst (λ (k : ClauseListState g.row.N.Denot). k.clause_room ≤ vec_capacity c.reserve.new.self) c.self.view_is c.reserve.ensures.capacity)
-    (subst (λ (k : ClauseListState g.row.N.Denot). k.record_room ≤ vec_capacity c.reserve-2.new.self) c.self.view_is c.reserve-2.ensures.capacity)
-    (subst (λ (k : ClauseListState g.row.N.Denot). KeepsRoom k.lists c.self.inside.map) c.self.view_is (λ l n room. room))
+    (subst (λ (k : ClauseListState g.row.N.Denot). k.clause_room ≤ vec_capacity c.reserve.new.self) c.self.view_is
+    c.reserve.ensures.capacity)
+    (subst (λ (k : ClauseListState g.row.N.Denot). k.record_room ≤ vec_capacity c.reserve-2.new.self) c.self.view_is
+    c.reserve-2.ensures.capacity)
+    (subst (λ (k : ClauseListState g.row.N.Denot). KeepsRoom k.lists c.self.inside.map) c.self.view_is
+    (λ l n room. room))

@@ -2,7 +2,8 @@ use Rattle.std.proofs.lemmas.Grind.{common_steps}
 use Rattle.std.proofs.Common.{◌≡◌, ◌+◌, ◌∙◌, sym, ap, subst, map, List, ◌++◌, ◌∷◌, [], length, length-append, arith}
 use Rattle.decisions.specs.Literals.{Lit}
 use Rattle.watch_map.specs.WatchLists.{AreWatched, AreUnwatchedBelow, literals_in}
-use Rattle.watch_map.specs.ClauseList.{IsClauseList, ClauseListState, contents, with_clause, literals_watched, HasRoomFor}
+use Rattle.watch_map.specs.ClauseList.{IsClauseList, ClauseListState, contents, with_clause, literals_watched}
+use Rattle.watch_map.specs.ClauseList.{HasRoomFor}
 use Rattle.watch_map.specs.Walks.{StartsAtEnd}
 use Rattle.watch_map.proofs.ListLaws.{contents_of, as_many_records, more_list, pushed_contents, room_after}
 use Rattle.watch_map.proofs.UnwatchedLaws.{below_longer}
@@ -17,13 +18,15 @@ invariant_of-self g c =
     let made = c.started-watches.result in
     let e = as_many_records inside.clauses.items learnt ws inside.map c.self.invariant.0 in
     let unwatched = inside.unwatched in
-    let watched = (c.started-watches.ensures.starts ws c.self.invariant.1 (c.from_index-id.ensures ∙ c.len.ensures ∙ inside.clauses.ok.0 ∙ e)).0 in
+    let watched = (c.started-watches.ensures.starts ws c.self.invariant.1 (c.from_index-id.ensures ∙ c.len.ensures
+    ∙ inside.clauses.ok.0 ∙ e)).0 in
     subst (λ cs. IsClauseList (contents_of cs c.push_reserved-2.new.self.items learnt new) ×
     AreWatched new c.push_reserved-2.new.self.items ×
     AreUnwatchedBelow c.push_reserved-2.new.self.items unwatched.bound unwatched.ids.items)
     (sym c.push_reserved.ensures.items)
     (subst (λ rs. IsClauseList (contents_of (inside.clauses.items ++ c.args.clause ∷ []) rs learnt new) ×
-    AreWatched new rs × AreUnwatchedBelow rs unwatched.bound unwatched.ids.items) (sym c.push_reserved-2.ensures.items) (
+    AreWatched new rs × AreUnwatchedBelow rs unwatched.bound unwatched.ids.items)
+    (sym c.push_reserved-2.ensures.items) (
       more_list inside.clauses.items learnt ws inside.map new c.args.clause made c.self.invariant.0
           (rw (← c.self.view_is) at c.requires.room.id) watched,
       watched,

@@ -17,10 +17,12 @@ invariant_of-self g c =
     let ws' = c.rewatch.new.watches in
     let new = c.rewatch.new.map in
     let learnt : List (List Lit) = map (λ v. v.items) inside.learnt in
-    let all = whole inside.watches.len ws' ws inside.watches.ok.0 (subst (λ rs. length ws' ≡ length rs) c.as_mut_slice.ensures.value c.rewatch.auto.watches) in
+    let all = whole inside.watches.len ws' ws inside.watches.ok.0
+    (subst (λ rs. length ws' ≡ length rs) c.as_mut_slice.ensures.value c.rewatch.auto.watches) in
     let ok = subst (λ rs. OnOk c.rewatch.result (IsRewatched inside.map rs c.args.id c.args.from c.args.to new ws'))
     c.as_mut_slice.ensures.value c.rewatch.ensures.ok in
-    let err = subst (λ rs. OnErr c.rewatch.result (SameLists inside.map new × (ws' ≡ rs))) c.as_mut_slice.ensures.value c.rewatch.ensures.err in
+    let err = subst (λ rs. OnErr c.rewatch.result (SameLists inside.map new × (ws' ≡ rs)))
+    c.as_mut_slice.ensures.value c.rewatch.ensures.err in
     let unwatched = inside.unwatched in
     let after = after_rewatch c.rewatch.result inside.clauses.items learnt ws ws' inside.map new c.args.id c.args.from
     c.args.to c.self.invariant.1 c.self.invariant.0 ok err in
@@ -39,7 +41,8 @@ returns-clause-ok g c =
     let ws' = c.rewatch.new.watches in
     let new = c.rewatch.new.map in
     let learnt : List (List Lit) = map (λ v. v.items) inside.learnt in
-    let all = whole inside.watches.len ws' ws inside.watches.ok.0 (subst (λ rs. length ws' ≡ length rs) c.as_mut_slice.ensures.value c.rewatch.auto.watches) in
+    let all = whole inside.watches.len ws' ws inside.watches.ok.0
+    (subst (λ rs. length ws' ≡ length rs) c.as_mut_slice.ensures.value c.rewatch.auto.watches) in
     let ok = subst (λ rs. OnOk c.rewatch.result (IsRewatched inside.map rs c.args.id c.args.from c.args.to new ws'))
     c.as_mut_slice.ensures.value c.rewatch.ensures.ok in
     let can = subst (λ rs. OnOk c.rewatch.result (IsTrue (may_rewatch rs c.args.id c.args.from c.args.to)))
@@ -49,7 +52,8 @@ returns-clause-ok g c =
     (subst (λ (k : ClauseListState g.row.N.Denot). OnOk c.rewatch.result
     (contents_of inside.clauses.items ws' learnt new ≡ with_rewatched (contents k) c.args.id c.args.from c.args.to))
     c.self.view_is
-    (ok_rewatch c.rewatch.result inside.clauses.items learnt ws ws' inside.map new c.args.id c.args.from c.args.to ok can))
+    (ok_rewatch c.rewatch.result inside.clauses.items learnt ws ws' inside.map new c.args.id c.args.from c.args.to ok
+    can))
 
 pub returns-clause-err : goal.returns-clause-err
 returns-clause-err g c =
@@ -58,10 +62,14 @@ returns-clause-err g c =
     let ws' = c.rewatch.new.watches in
     let new = c.rewatch.new.map in
     let learnt : List (List Lit) = map (λ v. v.items) inside.learnt in
-    let all = whole inside.watches.len ws' ws inside.watches.ok.0 (subst (λ rs. length ws' ≡ length rs) c.as_mut_slice.ensures.value c.rewatch.auto.watches) in
-    let err = subst (λ rs. OnErr c.rewatch.result (SameLists inside.map new × (ws' ≡ rs))) c.as_mut_slice.ensures.value c.rewatch.ensures.err in
-    subst (λ rs. OnErr c.rewatch.result (contents_of inside.clauses.items rs learnt new ≡ contents c.args.self.now)) (sym all)
-    (subst (λ (k : ClauseListState g.row.N.Denot). OnErr c.rewatch.result (contents_of inside.clauses.items ws' learnt new ≡ contents k)) c.self.view_is
+    let all = whole inside.watches.len ws' ws inside.watches.ok.0
+    (subst (λ rs. length ws' ≡ length rs) c.as_mut_slice.ensures.value c.rewatch.auto.watches) in
+    let err = subst (λ rs. OnErr c.rewatch.result (SameLists inside.map new × (ws' ≡ rs)))
+    c.as_mut_slice.ensures.value c.rewatch.ensures.err in
+    subst (λ rs. OnErr c.rewatch.result (contents_of inside.clauses.items rs learnt new ≡ contents c.args.self.now))
+    (sym all)
+    (subst (λ (k : ClauseListState g.row.N.Denot). OnErr c.rewatch.result
+    (contents_of inside.clauses.items ws' learnt new ≡ contents k)) c.self.view_is
     (err_rewatch c.rewatch.result inside.clauses.items learnt ws ws' inside.map new c.self.invariant.1 err))
 
 pub returns-clause-refused : goal.returns-clause-refused

@@ -60,9 +60,11 @@ catch_up-requires g c =
 
 pub returns-in_err-catch_up-clause-rearranged : goal.returns-in_err-catch_up-clause-rearranged
 returns-in_err-catch_up-clause-rearranged g c =
-    let literals = literals_in_list (stored_in [] c.args.lists.now c.args.disjunctions.now) (contents c.args.self.now) in
+    let literals = literals_in_list (stored_in [] c.args.lists.now c.args.disjunctions.now)
+    (contents c.args.self.now) in
     let watched = watches_of (contents c.args.self.now) in
-    subst (λ (s : ClauseListState g.row.N.Denot). IsRearranged literals watched (watches_of (contents s))) (sym c.self.view_is)
+    subst (λ (s : ClauseListState g.row.N.Denot). IsRearranged literals watched (watches_of (contents s)))
+    (sym c.self.view_is)
     (record { own = c.requires.own; as_many = λ x. refl })
 
 pub returns-in_err-catch_up-clause-implied : goal.returns-in_err-catch_up-clause-implied
@@ -72,7 +74,8 @@ returns-in_err-catch_up-clause-implied g c =
 
 pub returns-in_err-catch_up-clause-marks : goal.returns-in_err-catch_up-clause-marks
 returns-in_err-catch_up-clause-marks g c =
-    let literals = literals_in_list (stored_in [] c.args.lists.now c.args.disjunctions.now) (contents c.args.self.now) in
+    let literals = literals_in_list (stored_in [] c.args.lists.now c.args.disjunctions.now)
+    (contents c.args.self.now) in
     subst (λ (s : ClauseListState g.row.N.Denot). AreMarks literals (watches_of (contents s)) c.args.trail.now.entries
     c.args.marks.now) (sym c.self.view_is) c.requires.marks
 
@@ -89,7 +92,8 @@ saturate-requires g c =
     let unwatched = c.catch_up.new.self in
     let below = subst (λ (rs : Watches). AreUnwatchedBelow rs unwatched.bound unwatched.ids.items)
     c.as_slice.ensures.value c.catch_up.ensures.are in
-    let listed = all_of_them unwatched.bound unwatched.ids.items inside.watches.items (length inside.clauses.items) below
+    let listed = all_of_them unwatched.bound unwatched.ids.items inside.watches.items
+    (length inside.clauses.items) below
     (c.in_ok-catch_up.ensures.ok ∙ ap length c.as_slice.ensures.value) many in
     let entries = c.args.trail.now.entries in
     let marks = subst (λ (s : ClauseListState g.row.N.Denot). AreMarks

@@ -6,17 +6,20 @@ use Rattle.watch_map.proofs.LinkLaws.{slot_within}
 use Rattle.watch_map.proofs.lists.WatchMap.make_room_many.Goals as goal
 
 pub returns-clause-lists : goal.returns-clause-lists
-returns-clause-lists g c = same_lists c.args.self.now c.make_room.new.self (λ key. c.make_room.ensures.same key ∙ ap (λ m. value_at m key) c.self.view_is)
+returns-clause-lists g c = same_lists c.args.self.now c.make_room.new.self (λ key. c.make_room.ensures.same key
+    ∙ ap (λ m. value_at m key) c.self.view_is)
 
 pub returns-clause-rooms : goal.returns-clause-rooms
 returns-clause-rooms g c l n =
     let more = no_fewer_slots c.make_room.result c.self.inside.firsts c.make_room.new.self
     (slots_for (literal_index c.args.literal)) c.make_room.ensures.slots c.make_room.ensures.err in
-    room_by_length c.args.self.now c.make_room.new.self l n n (subst (λ m. length m ≤ length c.make_room.new.self) c.self.view_is more)
+    room_by_length c.args.self.now c.make_room.new.self l n n
+    (subst (λ m. length m ≤ length c.make_room.new.self) c.self.view_is more)
 
 pub returns-clause-room : goal.returns-clause-room
 returns-clause-room g c =
-    room_in_slots c.make_room.result c.self.inside.firsts c.make_room.new.self (slots_for (literal_index c.args.literal)) c.make_room.ensures.slots
+    room_in_slots c.make_room.result c.self.inside.firsts c.make_room.new.self
+    (slots_for (literal_index c.args.literal)) c.make_room.ensures.slots
     c.args.literal c.args.additions (omega arith)
 
 pub returns-clause-succeeds : goal.returns-clause-succeeds

@@ -13,6 +13,7 @@ returns-else-is_false g c =
     let es = c.args.trail.now.entries in
     let level = level_of es (variable_of l) in
     let not_false : is_false_literal (val es) l ≡ false =
-    ap (λ (now : Values). is_false_literal now l) (sym c.map.ensures.values) ∙ sym c.is_false.ensures ∙ c.if-is_false.false in
+    ap (λ (now : Values). is_false_literal now l) (sym c.map.ensures.values) ∙ sym c.is_false.ensures
+    ∙ c.if-is_false.false in
     sym (filter_none (λ m. is_false_literal (val es) l && is_from (Level level) m) c.args.self.now
     (λ m. ap (λ b. b && is_from (Level level) m) not_false))

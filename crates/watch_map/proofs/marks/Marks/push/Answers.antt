@@ -15,4 +15,5 @@ push_behind-requires g c =
     let kept = All-filter (λ m. not (is_from (Place mark.place) m)) (λ m. IsBehind m mark) marks
     (all_behind marks mark c.self.invariant behind) in
     subst (All (λ (m : Mark). IsBehind m mark)) (sym c.forget.ensures)
-    (subst (λ (ms : List Mark). All (λ (m : Mark). IsBehind m mark) (marks_below (Place mark.place) ms)) c.self.view_is kept)
+    (subst (λ (ms : List Mark). All (λ (m : Mark). IsBehind m mark) (marks_below (Place mark.place) ms))
+    c.self.view_is kept)

@@ -28,7 +28,8 @@ bound_of_true-requires-clause-first g c =
     let es = c.args.trail.now.entries in
     subst (λ (now : Values). AreAllTrue literals (take c.count_before-first.result ids) now) (sym c.map.ensures.values)
     (first_are_true literals watched (length input.clauses.now) ids (val es) c.requires.unwatched
-    c.args.from.now.clauses c.count_before-first.result (mark_unwatched literals watched es c.args.from.now c.requires.from)
+    c.args.from.now.clauses c.count_before-first.result
+    (mark_unwatched literals watched es c.args.from.now c.requires.from)
     c.count_before-first.ensures)
 
 pub returns-clause-mark : goal.returns-clause-mark

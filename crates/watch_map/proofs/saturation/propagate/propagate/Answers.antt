@@ -7,7 +7,8 @@ use Rattle.watch_map.specs.Visits.{literals_at}
 use Rattle.watch_map.proofs.InputLaws.{given_within}
 use Rattle.watch_map.proofs.ValueLaws.{before_extends, extends_self}
 use Rattle.watch_map.proofs.ImplicationLaws.{forced_then, forced_longer}
-use Rattle.watch_map.proofs.RoundLaws.{none_case, rearranged_then, keeps_then, place_reached, as_many_decisions, place_smaller}
+use Rattle.watch_map.proofs.RoundLaws.{none_case, rearranged_then, keeps_then, place_reached, as_many_decisions}
+use Rattle.watch_map.proofs.RoundLaws.{place_smaller}
 use Rattle.watch_map.proofs.saturation.propagate.propagate.Goals as goal
 
 pub returns-in_err-conflict-clause-implied : goal.returns-in_err-conflict-clause-implied

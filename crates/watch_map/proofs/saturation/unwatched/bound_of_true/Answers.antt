@@ -11,7 +11,8 @@ loop-place-preserved g c =
     let input = c.args.input.now in
     let now = values_in c.args.map.now in
     let literals = literals_at input in
-    one_more input.unwatched.now c.loop-place.place c.index-input-place.result c.loop-place-test.true c.index-input-place.is
+    one_more input.unwatched.now c.loop-place.place c.index-input-place.result c.loop-place-test.true
+    c.index-input-place.is
     (λ x. is_true now (literals x) ≡ true) c.loop-place.invariant
     (subst (λ x. is_true now (literals x) ≡ true) (sym c.index-input-place.is)
     (sym c.is_clause_true.ensures ∙ c.if-not-is_clause_true.false))
@@ -31,7 +32,8 @@ returns-then-not-is_clause_true-clause-below g c =
     let literals = literals_at input in
     subst (λ n. All (λ x. x < n → is_true now (literals x) ≡ true) input.unwatched.now)
     (c.index-input-place.is ∙ sym c.to_index.ensures.value)
-    (below_here input.unwatched.now c.loop-place.place c.index-input-place.result c.loop-place-test.true c.index-input-place.is
+    (below_here input.unwatched.now c.loop-place.place c.index-input-place.result c.loop-place-test.true
+    c.index-input-place.is
     c.requires.ascending (λ x. is_true now (literals x) ≡ true) c.loop-place.invariant)
 
 pub returns-clause-below : goal.returns-clause-below

@@ -14,5 +14,6 @@ returns-then-to_index-bound g c =
     let test = c.if-to_index-bound.true in
     let whole : count - 1 + 1 ≡ count = omega (arith, some) in
     subst (λ n. All (λ x. x < bound) (take n ids)) whole
-    (up_to_here ids (count - 1) c.index-input-count.result (omega (arith, some, most)) c.index-input-count.is c.requires bound
+    (up_to_here ids (count - 1) c.index-input-count.result (omega (arith, some, most)) c.index-input-count.is
+    c.requires bound
     (omega (arith, index, test)))

@@ -110,9 +110,11 @@ move_watch-requires-clause-stands g c =
     let here : IsNodeOf ws l previous c.node_of.result =
     record { clause = c.node_of.ensures.clause; is_node = c.node_of.ensures.node } in
     let place : Position = record { literal = l; previous = c.node_of.result; current = c.node_at-current.result } in
-    let p = placed_at map ws l previous c.loop-next.next c.loop-next.invariant.walked.watched c.loop-next.invariant.reached
+    let p = placed_at map ws l previous c.loop-next.next c.loop-next.invariant.walked.watched
+    c.loop-next.invariant.reached
     c.node_of.result here
-    c.in-Some.clause_id c.in-Some.is c.node_at-current.result c.node_at-current.ensures.clause c.node_at-current.ensures.within
+    c.in-Some.clause_id c.in-Some.is c.node_at-current.result c.node_at-current.ensures.clause
+    c.node_at-current.ensures.within
     c.node_at-current.ensures.watch in
     p.at.stands
 
@@ -124,10 +126,17 @@ loop-next-smaller-in-Satisfied g c =
     let previous = c.loop-next.previous in
     let ahead = ahead_of previous (watchers map ws l) in
     let here = known_node map ws l previous c.loop-next.next c.loop-next.invariant.reached in
-    let place : Position = record { literal = l; previous = c.loop-next.invariant.reached.node; current = c.node_at-current.result } in
-    let p = placed_at map ws l previous c.loop-next.next c.loop-next.invariant.walked.watched c.loop-next.invariant.reached
+    let place : Position = record {
+      literal = l;
+      previous = c.loop-next.invariant.reached.node;
+      current =
+          c.node_at-current.result;
+    } in
+    let p = placed_at map ws l previous c.loop-next.next c.loop-next.invariant.walked.watched
+    c.loop-next.invariant.reached
     c.loop-next.invariant.reached.node here
-    c.in-Some.clause_id c.in-Some.is c.node_at-current.result c.node_at-current.ensures.clause c.node_at-current.ensures.within
+    c.in-Some.clause_id c.in-Some.is c.node_at-current.result c.node_at-current.ensures.clause
+    c.node_at-current.ensures.within
     c.node_at-current.ensures.watch in
     smaller_by c.node_at-current.result.clause_id (rest place map ws) ahead p.ahead
 
@@ -143,19 +152,28 @@ loop-next-preserved-in-Satisfied g c =
     let previous = c.loop-next.previous in
     let ahead = ahead_of previous (watchers map ws l) in
     let here = known_node map ws l previous c.loop-next.next c.loop-next.invariant.reached in
-    let place : Position = record { literal = l; previous = c.loop-next.invariant.reached.node; current = c.node_at-current.result } in
-    let p = placed_at map ws l previous c.loop-next.next c.loop-next.invariant.walked.watched c.loop-next.invariant.reached
+    let place : Position = record {
+      literal = l;
+      previous = c.loop-next.invariant.reached.node;
+      current =
+          c.node_at-current.result;
+    } in
+    let p = placed_at map ws l previous c.loop-next.next c.loop-next.invariant.walked.watched
+    c.loop-next.invariant.reached
     c.loop-next.invariant.reached.node here
-    c.in-Some.clause_id c.in-Some.is c.node_at-current.result c.node_at-current.ensures.clause c.node_at-current.ensures.within
+    c.in-Some.clause_id c.in-Some.is c.node_at-current.result c.node_at-current.ensures.clause
+    c.node_at-current.ensures.within
     c.node_at-current.ensures.watch in
-    let more : IsWalked literals level l t w map ws c.visit.new.trail (c.node_at-current.result.clause_id ∷ rest place map ws) =
+    let more : IsWalked literals level l t w map ws c.visit.new.trail
+    (c.node_at-current.result.clause_id ∷ rest place map ws) =
     subst (λ xs. IsWalked literals level l t w map ws c.visit.new.trail xs) (sym p.ahead)
     (walked_more literals level l t w map ws c.loop-next.trail c.visit.new.trail ahead c.visit.ensures.implied
     c.loop-next.invariant.walked) in
     let now = val c.visit.new.trail.entries in
     let id = c.node_at-current.result.clause_id in
     let seen : has_true_beside now (watched_by ws id) l ≡ true =
-    subst (λ (v : VisitOutcome). IsVisit now (literals id) (watched_by ws id) l v) c.in-Satisfied.is c.in_ok-visit.ensures.ok in
+    subst (λ (v : VisitOutcome). IsVisit now (literals id) (watched_by ws id) l v) c.in-Satisfied.is
+    c.in_ok-visit.ensures.ok in
     record {
       reached = behind_past map ws place c.next_of-next.result p.at.stands c.next_of-next.ensures;
       walked = walked_next literals level l t w map ws c.visit.new.trail id (rest place map ws) seen more;
@@ -171,9 +189,11 @@ loop-next-smaller g c =
     let here : IsNodeOf ws l previous c.node_of.result =
     record { clause = c.node_of.ensures.clause; is_node = c.node_of.ensures.node } in
     let place : Position = record { literal = l; previous = c.node_of.result; current = c.node_at-current.result } in
-    let p = placed_at map ws l previous c.loop-next.next c.loop-next.invariant.walked.watched c.loop-next.invariant.reached
+    let p = placed_at map ws l previous c.loop-next.next c.loop-next.invariant.walked.watched
+    c.loop-next.invariant.reached
     c.node_of.result here
-    c.in-Some.clause_id c.in-Some.is c.node_at-current.result c.node_at-current.ensures.clause c.node_at-current.ensures.within
+    c.in-Some.clause_id c.in-Some.is c.node_at-current.result c.node_at-current.ensures.clause
+    c.node_at-current.ensures.within
     c.node_at-current.ensures.watch in
     let reached : IsReached l place.previous c.next_of-next.result c.move_watch.new.map c.move_watch.new.watches
     (passed place map ws) (rest place map ws) =
@@ -183,7 +203,8 @@ loop-next-smaller g c =
     let is = sym (ap (λ o. ahead_of o (watchers c.move_watch.new.map c.move_watch.new.watches l)) here.clause)
     ∙ ahead_is c.move_watch.new.map c.move_watch.new.watches l place.previous c.next_of-next.result
     (passed place map ws) (rest place map ws) watched reached in
-    smaller_by c.node_at-current.result.clause_id (ahead_of previous (watchers c.move_watch.new.map c.move_watch.new.watches l)) ahead
+    smaller_by c.node_at-current.result.clause_id (ahead_of previous
+    (watchers c.move_watch.new.map c.move_watch.new.watches l)) ahead
     (ap (λ xs. c.node_at-current.result.clause_id ∷ xs) is ∙ p.ahead)
 
 pub loop-next-preserved : goal.loop-next-preserved
@@ -200,11 +221,14 @@ loop-next-preserved g c =
     let here : IsNodeOf ws l previous c.node_of.result =
     record { clause = c.node_of.ensures.clause; is_node = c.node_of.ensures.node } in
     let place : Position = record { literal = l; previous = c.node_of.result; current = c.node_at-current.result } in
-    let p = placed_at map ws l previous c.loop-next.next c.loop-next.invariant.walked.watched c.loop-next.invariant.reached
+    let p = placed_at map ws l previous c.loop-next.next c.loop-next.invariant.walked.watched
+    c.loop-next.invariant.reached
     c.node_of.result here
-    c.in-Some.clause_id c.in-Some.is c.node_at-current.result c.node_at-current.ensures.clause c.node_at-current.ensures.within
+    c.in-Some.clause_id c.in-Some.is c.node_at-current.result c.node_at-current.ensures.clause
+    c.node_at-current.ensures.within
     c.node_at-current.ensures.watch in
-    let more : IsWalked literals level l t w map ws c.visit.new.trail (c.node_at-current.result.clause_id ∷ rest place map ws) =
+    let more : IsWalked literals level l t w map ws c.visit.new.trail
+    (c.node_at-current.result.clause_id ∷ rest place map ws) =
     subst (λ xs. IsWalked literals level l t w map ws c.visit.new.trail xs) (sym p.ahead)
     (walked_more literals level l t w map ws c.loop-next.trail c.visit.new.trail ahead c.visit.ensures.implied
     c.loop-next.invariant.walked) in
@@ -219,15 +243,20 @@ loop-next-preserved g c =
     let now = val c.visit.new.trail.entries in
     let id = c.node_at-current.result.clause_id in
     let may : MayWatch now (literals id) (watched_by ws id) c.in-Moves.other =
-    subst (λ (v : VisitOutcome). IsVisit now (literals id) (watched_by ws id) l v) c.in-Moves.is c.in_ok-visit.ensures.ok in
-    let l_false = walked_false literals level l t w map ws c.visit.new.trail (id ∷ rest place map ws) c.requires.is_false
+    subst (λ (v : VisitOutcome). IsVisit now (literals id) (watched_by ws id) l v) c.in-Moves.is
+    c.in_ok-visit.ensures.ok in
+    let l_false = walked_false literals level l t w map ws c.visit.new.trail
+    (id ∷ rest place map ws) c.requires.is_false
     more in
     record {
-      reached = behind_from c.move_watch.new.map c.move_watch.new.watches l place.previous previous c.next_of-next.result
+      reached = behind_from c.move_watch.new.map c.move_watch.new.watches l place.previous previous
+          c.next_of-next.result
           (passed place map ws) (rest place map ws) watched here.clause reached;
-      walked = subst (λ xs. IsWalked literals level l t w c.move_watch.new.map c.move_watch.new.watches c.visit.new.trail xs)
+      walked = subst (λ xs. IsWalked literals level l t w c.move_watch.new.map c.move_watch.new.watches
+          c.visit.new.trail xs)
           (sym is)
-          (walked_moved literals level l t w map c.move_watch.new.map ws c.move_watch.new.watches c.visit.new.trail place
+          (walked_moved literals level l t w map c.move_watch.new.map ws c.move_watch.new.watches c.visit.new.trail
+          place
           c.in-Moves.other p.at l_false may c.in_ok-move_watch-in-Moves.ensures.lists more);
     }
 
@@ -241,10 +270,17 @@ returns-in-Conflict-clause-ok g c =
     let map = c.loop-next.map in
     let previous = c.loop-next.previous in
     let here = known_node map ws l previous c.loop-next.next c.loop-next.invariant.reached in
-    let place : Position = record { literal = l; previous = c.loop-next.invariant.reached.node; current = c.node_at-current.result } in
-    let p = placed_at map ws l previous c.loop-next.next c.loop-next.invariant.walked.watched c.loop-next.invariant.reached
+    let place : Position = record {
+      literal = l;
+      previous = c.loop-next.invariant.reached.node;
+      current =
+          c.node_at-current.result;
+    } in
+    let p = placed_at map ws l previous c.loop-next.next c.loop-next.invariant.walked.watched
+    c.loop-next.invariant.reached
     c.loop-next.invariant.reached.node here
-    c.in-Some.clause_id c.in-Some.is c.node_at-current.result c.node_at-current.ensures.clause c.node_at-current.ensures.within
+    c.in-Some.clause_id c.in-Some.is c.node_at-current.result c.node_at-current.ensures.clause
+    c.node_at-current.ensures.within
     c.node_at-current.ensures.watch in
     let here = read_in (watched_by ws id) c.node_at-current.result.watch_index l p.at.stands.within p.at.stands.watch in
     let within = given_within input id l (c.loop-next.invariant.walked.rearranged.own id l here) in

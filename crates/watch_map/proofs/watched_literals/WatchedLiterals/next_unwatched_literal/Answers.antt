@@ -17,7 +17,8 @@ returns g c =
     let there : slice_get watches (1 - c.args.index) ≡ Some other =
     slice_get_read watches 2 (1 - c.args.index) other (search rules) (omega arith) c.index-self-index.is in
     let found : c.find_literal.result ≡ find (λ l. not (same_literal l other) && not (is_false_literal now l)) ls =
-    c.find_literal.ensures.tested (λ l. not (same_literal l other) && not (is_false_literal now l)) (λ x b k. search (rules, tests)) in
+    c.find_literal.ensures.tested (λ l. not (same_literal l other) && not (is_false_literal now l))
+    (λ x b k. search (rules, tests)) in
     found
     ∙ (ap (λ o. find (λ l. not (option_map_or (same_literal l) o false) && not (is_false_literal now l)) ls) (sym there)
     ∙ sym (ap (λ b. cond b None

@@ -20,23 +20,38 @@ all_counted g c = ap (λ (k : Counting). k.counted) c.self.view_is ∙ c.catch_u
 
 -- what is counted then
 counts_now : (g : Over) (c : goal.After-prepare g) (cs : List PlacedDemand)
-    → Follows {A = A-type g.row.A} c.args.self.now c.args.trail.now.entries (counted c.args.lists.now c.args.disjunctions.now cs no_false)
-    → Counts c.self.inside.clauses (counted c.args.lists.now c.args.disjunctions.now cs (is_false_literal (values_in c.map.result.now)))
+    → Follows {A = A-type g.row.A} c.args.self.now c.args.trail.now.entries
+    (counted c.args.lists.now c.args.disjunctions.now cs no_false)
+    → Counts c.self.inside.clauses (counted c.args.lists.now c.args.disjunctions.now cs
+    (is_false_literal (values_in c.map.result.now)))
 counts_now g c cs h =
     let es = c.args.trail.now.entries in
     let s = counted c.args.lists.now c.args.disjunctions.now cs no_false in
-    let kept : Counting = record { clauses = c.self.inside.clauses; known = c.self.inside.known; counted = c.self.inside.counted } in
+    let kept : Counting = record {
+      clauses = c.self.inside.clauses;
+      known = c.self.inside.known;
+      counted =
+          c.self.inside.counted;
+    } in
     let was = subst (λ (k : Counting). Follows k es s) (sym c.self.view_is) (c.catch_up.ensures.follows s h) in
-    subst (λ val. Counts c.self.inside.clauses (counted c.args.lists.now c.args.disjunctions.now cs (is_false_literal val))) (sym c.map.ensures.values)
+    subst (λ val. Counts c.self.inside.clauses (counted c.args.lists.now c.args.disjunctions.now cs
+    (is_false_literal val))) (sym c.map.ensures.values)
     (counts_all kept s es (all_counted g c) was)
 
 pub returns-clause-same : goal.returns-clause-same
 returns-clause-same g c cs h =
     let es = c.args.trail.now.entries in
     let s = counted c.args.lists.now c.args.disjunctions.now cs no_false in
-    let after = subst (λ val. Counts c.prepare.new.self (counted c.args.lists.now c.args.disjunctions.now cs (is_false_literal val))) c.map.ensures.values
+    let after = subst (λ val. Counts c.prepare.new.self (counted c.args.lists.now c.args.disjunctions.now cs
+    (is_false_literal val))) c.map.ensures.values
     (c.prepare.ensures.same cs (counts_now g c cs h)) in
-    follows_all (record { clauses = c.prepare.new.self; known = c.self.inside.known; counted = c.self.inside.counted }) s es (all_counted g c) after
+    follows_all (record {
+      clauses = c.prepare.new.self;
+      known = c.self.inside.known;
+      counted =
+          c.self.inside.counted;
+    }) s es (all_counted g c) after
 
 pub returns-clause-ready : goal.returns-clause-ready
-returns-clause-ready g c = if_ok c.prepare.result _ _ (λ groups ready cs h. ready cs (counts_now g c cs h)) c.prepare.ensures.ready
+returns-clause-ready g c = if_ok c.prepare.result _ _ (λ groups ready cs h. ready cs (counts_now g c cs h))
+    c.prepare.ensures.ready
