@@ -1,25 +1,18 @@
 -- What a store keeps stays in order: what each call on a part of it leaves.
-use Rattle.std.proofs.Common.{◌≡◌, ◌≢◌, ℕ, ◌<◌, ◌≤◌, ◌+◌, ◌-◌, ◌*◌, ◌/◌, ◌^◌, min, cond, true, not, List, [], ◌∷◌}
-use Rattle.std.proofs.Common.{◌++◌, length, map, take, Option, None, Some, IsSome, Result, Ok, Err, refl, sym, subst}
-use Rattle.std.proofs.Common.{ap, ◌∙◌, ◌⊎◌, inl, inr}
-use Rattle.std.specs.Prelude.{Bool, false, nat_eq, nat_lt, flat_map, All, IfSome, IsTrue, OnOk, OnErr}
+use Rattle.std.proofs.Common.{◌≡◌, ◌≢◌, ℕ, ◌<◌, ◌≤◌, ◌+◌, ◌-◌, ◌*◌, ◌/◌, ◌^◌, min, cond, true, not, List, ◌∷◌}
+use Rattle.std.proofs.Common.{◌++◌, length, map, Option, IsSome, Result, Ok, Err, refl, sym, subst}
+use Rattle.std.proofs.Common.{ap, ◌∙◌, inl, inr}
+use Rattle.std.specs.Prelude.{Bool, false, nat_eq, nat_lt, IfSome, IsTrue, OnOk, OnErr}
 use Rattle.typed_ids.specs.TotalMaps.{IsUpdate, SameValues}
 use Rattle.std.specs.List.{list_all}
-use Rattle.std.specs.Map.{lookup}
 use Rattle.std.proofs.Math.Nat.{zero-mul, zero-div}
-use Rattle.std.proofs.lemmas.List.{length-map, map-append}
-use Rattle.std.proofs.lemmas.List.Folds.{flat_map-map}
-use Rattle.typed_ids.specs.declared.version_set_id.VersionSetId.{VersionSetId}
-use Rattle.providers.specs.RequirementMap.{with_entry}
-use Rattle.providers.specs.Requirement.{same_requirement}
+use Rattle.std.proofs.lemmas.List.{map-append}
 use Rattle.std.specs.declared.vec.Vec.{Vec}
 use Rattle.std.proofs.lemmas.List.Elements.{All-push}
 use Rattle.providers.specs.declared.requirement.Requirement.{Requirement}
 use Rattle.providers.specs.Provider.{knows_requirement, sets_of}
 use Rattle.variables.specs.declared.variable_origin.VariableOrigin.{VariableOrigin}
-use Rattle.variables.specs.Variables.{with_variables, interned_variable}
 use Rattle.decisions.specs.Trail.{Entry, Trail, val, pushed, floor_taken, AddsEntry}
-use Rattle.decisions.specs.declared.decision.Decision.{Decision}
 use Rattle.decisions.specs.declared.decision_tracker.AddFault.{AddFault}
 use Rattle.decisions.specs.Literals.{Lit, variable_of}
 use Rattle.clauses.specs.declared.clause.Clause.{Clause}
@@ -30,156 +23,31 @@ use Rattle.watch_map.specs.ClauseList.{Clauses, two_or_none, can_rewatch, with_c
 use Rattle.watch_map.specs.ClauseList.{with_learnt as learnt_one, with_rewatched as list_rewatched, with_forbidden}
 use Rattle.clauses.specs.declared.disjunction.Disjunction.{Disjunction}
 use Rattle.resolvo_queue.specs.declared.requires_clause.RequiresClause.{RequiresClause}
-use Rattle.resolvo_queue.specs.Queue.{Queue, IsNew, SameClauses, SameSync, IsUnchanged, IsRegistered, HasTrail}
+use Rattle.resolvo_queue.specs.Queue.{Queue, SameClauses, SameSync, IsUnchanged, IsRegistered, HasTrail}
 use Rattle.resolvo_queue.specs.Queue.{OnlyHotScore, StandsOn}
 use Rattle.resolvo_queue.specs.References.{References, references}
-use Rattle.resolvo_queue.proofs.Clauses.Callers.{stands_with_disjunction, stands_with_lists}
-use Rattle.resolvo_store.specs.Lists.{lists_of_loaded, stored_disjunctions, AreQueried, IsConsistent, IsOneMore}
+use Rattle.resolvo_queue.proofs.Clauses.Callers.{stands_with_disjunction}
+use Rattle.resolvo_store.specs.Lists.{stored_disjunctions, IsConsistent, IsOneMore}
 use Rattle.resolvo_store.specs.Synced.{decisions_of, IsInStep, MayDecide}
-use Rattle.resolvo_store.proofs.SyncedLemmas.{in_step-new, in_step-pushed, in_step-same, in_step-unchanged}
+use Rattle.resolvo_store.proofs.SyncedLemmas.{in_step-pushed, in_step-same, in_step-unchanged}
 use Rattle.resolvo_store.proofs.SyncedLemmas.{in_step-registered, in_step-synced, in_step-refused}
-use Rattle.resolvo_store.specs.Sound.{IsSound, IsPlain}
-use Rattle.resolvo_store.specs.Store.{Store, Provider, StoreState, store_of, values, lists_of, stored_of}
+use Rattle.resolvo_store.specs.Sound.{IsSound}
+use Rattle.resolvo_store.specs.Store.{Store, values, lists_of, stored_of}
 use Rattle.resolvo_store.specs.Store.{clause_literals, watched_by}
-use Rattle.at_most_once.specs.AtMostOne.{Tracker, BitClause, is_tracked}
+use Rattle.at_most_once.specs.AtMostOne.{Tracker, is_tracked}
 use Rattle.at_most_once.specs.NameTrackers.{with_tracked as trackers_with}
 use Rattle.id_maps.specs.Scores.{bumped, decayed}
-use Rattle.resolvo_store.specs.Tracking.{forbidding, origins_with, is_helper_among}
-use Rattle.resolvo_store.specs.Outcome.{adds_clause, with_clause, with_learnt, helper_for, tracking, with_bits}
-use Rattle.resolvo_store.specs.Outcome.{with_tracked, with_bumped}
+use Rattle.resolvo_store.specs.Tracking.{origins_with, is_helper_among}
+use Rattle.resolvo_store.specs.Outcome.{with_clause, with_learnt, helper_for, tracking}
 use Rattle.resolvo_store.proofs.TrackedLaws.{IsSound-tracked}
-use Rattle.resolvo_store.proofs.AddingLemmas.{both, failed, learnt_watches}
-use Rattle.resolvo_store.proofs.ListLemmas.{items_of, lookup-none, insert-kept, few-more, length-mapped}
-use Rattle.solver_cache.specs.Cache.{Cache, is_set_queried}
-use Rattle.solver_cache.specs.Questions.{IsLater}
-use Rattle.solver_cache.proofs.CacheLemmas.{asked_later}
+use Rattle.resolvo_store.proofs.AddingLemmas.{both, failed}
+use Rattle.resolvo_store.proofs.LearningLemmas.{learnt_watches}
+use Rattle.solver_cache.specs.Cache.{Cache}
 use Rattle.resolvo_store.specs.Adding.{is_direct, names_known}
-use Rattle.resolvo_store.proofs.KnownLemmas.{IsKnownSolvable, IsLawful, known_direct, literals_below}
+use Rattle.resolvo_store.proofs.KnownLemmas.{IsLawful, known_direct, literals_below}
 use Rattle.resolvo_store.proofs.SoundLaws.{IsSound-scored, IsSound-pushed, IsSound-added, IsSound-disjunction}
 use Rattle.resolvo_store.proofs.SoundLaws.{IsSound-learnt, IsSound-requires, IsSound-rewatched}
-use Rattle.resolvo_store.proofs.SoundLaws.{IsSound-with_variables, IsSound-interned}
-
--- what comes of success, or of failure
-pub either : {T E P Q : Type 0} (result : Result T E) → OnOk result P → OnErr result Q → P ⊎ Q
-either (Ok x) p q = inl p
-either (Err e) p q = inr q
-
--- what follows from success, and what from failure
-pub on_ok : {T E P Q : Type 0} (result : Result T E) → (P → Q) → OnOk result P → OnOk result Q
-on_ok (Ok x) more p = more p
-on_ok (Err e) more p = p
-
-pub on_err : {T E P Q : Type 0} (result : Result T E) → (P → Q) → OnErr result P → OnErr result Q
-on_err (Ok x) more p = p
-on_err (Err e) more p = more p
-
--- an entry was added to the trail, or the trail stays
-added_or_same : (known : Option Bool) (old new : Trail) (e : Entry) (answer : Result Bool AddFault) →
-    AddsEntry known old e answer new
-    → ((known ≡ None) × (new ≡ pushed old e)) ⊎ (new ≡ old)
-added_or_same (Some b) old new e answer h = inr h.1
-added_or_same None old new e (Ok added) h = inl (refl, h.1)
-added_or_same None old new e (Err fault) h = inr h.1
-
--- the list of clauses in a store
-abbrev pub list_of : {N S : Type 0} → Store N S → Clauses N
-list_of st = record { clauses = st.clauses; watches = st.watches; learnt = st.learnt; watchers = st.watchers }
-
--- a store with another list of clauses
-abbrev pub with_list : {N S : Type 0} → Store N S → Clauses N → Store N S
-with_list st cs = record st { clauses = cs.clauses; watches = cs.watches; learnt = cs.learnt; watchers = cs.watchers }
-
--- clauses that the list adds under a name are those that the store adds
-pub forbidden_bits : {N S : Type 0} (name : N) (st : Store N S) (cs : List (BitClause ℕ)) →
-    with_list st (with_forbidden name (list_of st) cs) ≡ with_bits name st cs
-forbidden_bits name st [] = refl
-forbidden_bits name st (c ∷ cs) = forbidden_bits name (adds_clause st (forbidding name c)).store cs
-
--- a clause that a command names whole is plain
-plain_direct : {N : Type 0} (c : Clause N) → is_direct c ≡ true → IsPlain c
-plain_direct Kind.InstallRoot direct = record { unregistered = λ id. refl; untracked = λ named. refl }
-plain_direct (Kind.Constrains a b v) direct = record { unregistered = λ id. refl; untracked = λ named. refl }
-plain_direct (Kind.ConstrainsExcluded a aux v) direct = record { unregistered = λ id. refl; untracked = λ named. refl }
-plain_direct (Kind.ConstrainsParent a aux v) direct = record { unregistered = λ id. refl; untracked = λ named. refl }
-plain_direct (Kind.Lock locked other) direct = record { unregistered = λ id. refl; untracked = λ named. refl }
-plain_direct (Kind.Excluded a reason) direct = record { unregistered = λ id. refl; untracked = λ named. refl }
-plain_direct (Kind.AnyOf selected other) direct = record { unregistered = λ id. refl; untracked = λ named. refl }
-plain_direct (Kind.Requires parent d r) direct = absurd (let no : false ≡ true = direct in cc)
-plain_direct (Kind.ForbidMultipleInstances a l n) direct = absurd (let no : false ≡ true = direct in cc)
-plain_direct (Kind.Learnt id) direct = absurd (let no : false ≡ true = direct in cc)
-
--- a new queue, without clauses, may be asked
-pub new_may_ask : {N S A Q : Type 0} {has : Q → N → Bool} (queue : Queue N Q) (refs : References N S A)
-    (trail : Trail) → IsNew has queue → ((any : References N S A) → StandsOn any queue)
-    → trail.floor ≡ 0 → MayDecide has (λ n. 0) refs (record queue { clauses = [] }) trail
-new_may_ask {has = has} queue refs trail is stands first =
-    subst (λ cs. MayDecide has (λ n. 0) refs (record queue { clauses = cs }) trail) is.clauses (record {
-      in_step = in_step-new {has = has} trail first is;
-      stands = stands refs;
-      named = is.names ∙ sym (ap (map (λ c. map refs.universe.set_name (sets_of refs.universe c.requirement)))
-          is.clauses);
-      hot = λ n cold. refl;
-    })
-
--- a store that tracks one variable more, by its variables, its list of clauses and its trackers
-pub tracked_parts : {N S : Type 0} (st : Store N S) (name : N)
-    (v : ℕ) {os : List (VariableOrigin N S)} {cs : Clauses N} {ts : N → Tracker ℕ}
-    → os ≡ origins_with st.origins name (helper_for st name v) →
-    cs ≡ with_forbidden name (list_of st) (tracking st name v)
-    → ts ≡ trackers_with st.provider.same_name name v (helper_for st name v) st.trackers →
-    record (with_list st cs) { origins = os; trackers = ts } ≡ with_tracked st name v
-tracked_parts st name v {os} {cs} {ts} origins clauses trackers =
-    ap (λ o. record (with_list st cs) { origins = o; trackers = ts }) origins
-    ∙ ap (λ c. record (with_list st c) {
-      origins = origins_with st.origins name (helper_for st name v);
-      trackers =
-          ts;
-    }) clauses
-    ∙ ap (λ t. record (with_list st (with_forbidden name (list_of st) (tracking st name v))) {
-      origins =
-          origins_with st.origins name (helper_for st name v);
-      trackers = t;
-    }) trackers
-    ∙ forbidden_bits name (record st {
-      origins = origins_with st.origins name (helper_for st name v);
-      trackers = trackers_with st.provider.same_name name v (helper_for st name v) st.trackers;
-    }) (tracking st name v)
-
--- or is as it was
-pub tracked_or_same : {N S T E : Type 0} (st : Store N S) (name : N) (v : ℕ) (os : List (VariableOrigin N S))
-    (cs : Clauses N) (ts : N → Tracker ℕ) (result : Result T E)
-    → OnOk result (os ≡ origins_with st.origins name (helper_for st name v)) →
-    OnOk result (cs ≡ with_forbidden name (list_of st) (tracking st name v))
-    → OnOk result (ts ≡ trackers_with st.provider.same_name name v (helper_for st name v) st.trackers)
-    → OnErr result (os ≡ st.origins) → OnErr result (cs ≡ list_of st) → OnErr result (ts ≡ st.trackers)
-    → OnOk result (record (with_list st cs) { origins = os; trackers = ts } ≡ with_tracked st name v)
-    × OnErr result (record (with_list st cs) { origins = os; trackers = ts } ≡ st)
-tracked_or_same st name v os cs ts (Ok x) origins clauses trackers same_origins same_clauses same_trackers =
-    (tracked_parts st name v origins clauses trackers, tt)
-tracked_or_same st name v os cs ts (Err e) origins clauses trackers same_origins same_clauses same_trackers = (
-  tt,
-  ap (λ o. record (with_list st cs) { origins = o; trackers = ts }) same_origins
-      ∙ ap (λ c. record (with_list st c) { trackers = ts }) same_clauses
-      ∙ ap (λ t. record st { trackers = t }) same_trackers,
-)
-
--- a store in which a score was to be raised, by its scores and its requires clauses
-pub bumped_or_same : {N S T E : Type 0} (st : Store N S) (name : N) (amount : ℕ) (scores : N →
-    ℕ) {before requires : List RequiresClause} (result : Result T E)
-    → st.requires ≡ before → requires ≡ before →
-    OnOk result (scores ≡ bumped st.provider.same_name name amount st.scores) → OnErr result (scores ≡ st.scores)
-    → OnOk result (record st { scores = scores; requires = requires } ≡ with_bumped st name amount)
-    × OnErr result (record st { scores = scores; requires = requires } ≡ st)
-bumped_or_same st name amount scores {before} {requires} (Ok x) now same raised left = (
-  ap (λ s. record st { scores = s; requires = requires }) raised
-      ∙ ap (λ rs. record (with_bumped st name amount) { requires = rs }) (same ∙ sym now),
-  tt,
-)
-bumped_or_same st name amount scores {before} {requires} (Err e) now same raised left = (
-  tt,
-  ap (λ s. record st { scores = s; requires = requires }) left
-      ∙ ap (λ rs. record st { requires = rs }) (same ∙ sym now),
-)
+use Rattle.resolvo_store.proofs.PartOutcomes.{either, added_or_same, list_of, with_list, plain_direct, tracked_parts}
 
 module _ {D N S A H Q : Type 0} {has : Q → N → Bool} {st : Store N S} {loaded : List (Requirement × Vec (Vec ℕ A) A)}
     {disjunctions : List (Disjunction A)}
@@ -574,88 +442,3 @@ module _ {D N S A H Q : Type 0} {has : Q → N → Bool} {st : Store N S} {loade
         may_decide =
             may_ask_unchanged same stands;
       })
-
--- the store of what is kept, with this provider, these variables and these lists
-abbrev pub store_with : {D N S A C : Type 0} → (D → Provider N S) → (C → N → ℕ) → StoreState D N S C → D →
-    List (VariableOrigin N S) → List (Requirement × Vec (Vec ℕ A) A) → Store N S
-store_with provided scored kept provider os loaded =
-    store_of provided scored (record kept { provider = provider; origins = os; loaded = lists_of_loaded loaded })
-
--- after a load, of what was kept before it: the provider is the cache's
-module _ {D N S A H Q C : Type 0} (provided : D → Provider N S) (scored : C → N → ℕ) (has : H → S →
-    Bool) (has_name : Q → N → Bool) (kept : StoreState D N S C) (origins : List (VariableOrigin N S))
-    (loaded : List (Requirement × Vec (Vec ℕ A) A)) (disjunctions : List (Disjunction A)) (queue : Queue N Q)
-    (trail : Trail) (old new : Cache D N S A H) (later : IsLater has old new) where
-  abbrev same_solvable : S → S → Bool
-  same_solvable = (provided old.provider).same_solvable
-
-  abbrev with_all : D → List (VariableOrigin N S) → List (Requirement × Vec (Vec ℕ A) A) → Store N S
-  with_all = store_with provided scored kept
-
-  module _ (is : IsConsistent has_name (with_all old.provider origins loaded) loaded disjunctions old queue trail)
-      (lawful : IsLawful (provided old.provider)) where
-    -- after solvables got variables, or a beginning of them did
-    pub after_variables : (ss : List S) (os : List (VariableOrigin N S)) →
-        All (IsKnownSolvable (provided old.provider).universe) ss
-        → os ≡ with_variables same_solvable origins ss →
-        IsConsistent has_name (with_all new.provider os loaded) loaded disjunctions new queue trail
-    after_variables ss os known got =
-        subst (λ q. IsConsistent has_name (with_all q os loaded) loaded disjunctions new queue trail)
-        (sym later.provider) (record {
-          few = is.few;
-          known = is.known;
-          may_decide = is.may_decide;
-          sound = subst (λ vs. IsSound (with_all old.provider vs loaded)) (sym got)
-              (IsSound-with_variables (with_all old.provider origins loaded) is.sound lawful ss known);
-          queried = λ k d lt i v below. asked_later has (provided old.provider) _ old new later
-              (is.queried k d lt i v below);
-        })
-
-    -- after the candidates of a requirement got variables, and these were kept
-    pub after_load : (r : Requirement) (best : VersionSetId →
-        List S) (os : List (VariableOrigin N S)) (lists : Vec (Vec ℕ A) A)
-        (kept_lists : List (Requirement × Vec (Vec ℕ A) A))
-        → All (IsKnownSolvable (provided old.provider).universe)
-        (flat_map best (sets_of (provided old.provider).universe r))
-        → lookup (same_requirement r) (lists_of_loaded loaded) ≡ None
-        → os ≡ with_variables same_solvable origins (flat_map best (sets_of (provided old.provider).universe r))
-        → map (λ l. l.items) lists.items ≡ map (λ v. map (interned_variable same_solvable os) (best v))
-        (sets_of (provided old.provider).universe r)
-        → length (flat_map best (sets_of (provided old.provider).universe r)) < 2 ^ 40
-        → All (λ v. is_set_queried (provided old.provider) new v ≡ true) (sets_of (provided old.provider).universe r)
-        → kept_lists ≡ with_entry loaded r lists
-        → IsConsistent has_name (with_all new.provider os kept_lists) kept_lists disjunctions new queue trail
-    after_load r best os lists kept_lists solvables fresh got made few asked keeps =
-        let sets = sets_of (provided old.provider).universe r in
-        let st = with_all old.provider origins loaded in
-        let own : List (VariableOrigin N S) → List (List ℕ) =
-        λ vs. map (λ v. map (interned_variable same_solvable vs) (best v)) sets in
-        let entry : lists_of_loaded (with_entry loaded r lists) ≡ lists_of_loaded loaded ++ (r, own os) ∷ [] =
-        insert-kept loaded r lists fresh ∙ ap (λ ls. lists_of_loaded loaded ++ (r, ls) ∷ []) made in
-        let rows : length (flat_map (λ l. l) (items_of lists)) ≡ length (flat_map best sets) =
-        ap (λ ls. length (flat_map (λ l. l) ls)) made
-        ∙ ap length (flat_map-map (λ l. l) (λ v. map (interned_variable same_solvable os) (best v)) sets)
-        ∙ length-mapped best (interned_variable same_solvable os) sets in
-        let sound : IsSound (record st { origins = os; loaded = lists_of_loaded loaded ++ (r, own os) ∷ [] }) =
-        subst (λ vs. IsSound (record st { origins = vs; loaded = lists_of_loaded loaded ++ (r, own vs) ∷ [] }))
-        (sym got)
-        (IsSound-interned st is.sound lawful r best sets solvables fresh refl) in
-        subst (λ ks. IsConsistent has_name (with_all new.provider os ks) ks disjunctions new queue trail) (sym keeps)
-        (subst (λ q. IsConsistent has_name (with_all q os (with_entry loaded r lists))
-        (with_entry loaded r lists) disjunctions new queue trail) (sym later.provider) (record {
-          few = few-more loaded r lists is.few (rw rows few);
-          known = is.known;
-          may_decide = record {
-            in_step = is.may_decide.in_step;
-            stands = stands_with_lists (references (provided old.provider).universe loaded disjunctions) queue r
-                lists (lookup-none loaded r fresh) is.may_decide.stands;
-            named = is.may_decide.named;
-            hot = is.may_decide.hot;
-          };
-          sound = subst (λ ls. IsSound (record st { origins = os; loaded = ls })) (sym entry) sound;
-          queried = subst (AreQueried (provided old.provider) new) (sym entry)
-              (All-push (λ e. All (λ v. is_set_queried (provided old.provider) new v ≡ true)
-              (sets_of (provided old.provider).universe e.0)) (lists_of_loaded loaded) (r, own os)
-              (λ k d lt i v below. asked_later has (provided old.provider) _ old new later
-              (is.queried k d lt i v below)) asked);
-        }))

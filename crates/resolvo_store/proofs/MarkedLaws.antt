@@ -29,7 +29,7 @@ use Rattle.watch_map.proofs.MarkedLists.{marks_added}
 use Rattle.resolvo_store.specs.Store.{Store, StoredDisjunction, clause_literals, stored_of, watched_by}
 use Rattle.resolvo_store.specs.Lists.{HasMarks, lists_of_loaded, stored_disjunctions}
 use Rattle.resolvo_store.proofs.AddingLemmas.{both}
-use Rattle.resolvo_store.proofs.InvariantLemmas.{list_of, with_list, either}
+use Rattle.resolvo_store.proofs.PartOutcomes.{list_of, with_list, either}
 use Rattle.resolvo_store.proofs.ListLemmas.{items_of, insert-kept}
 use Rattle.resolvo_store.proofs.WatchLaws.{at_grown, at_before, found_before, asked_before, lists_before}
 use Rattle.resolvo_store.proofs.WatchLaws.{literals_learnt, literals_listed, literals_asked}

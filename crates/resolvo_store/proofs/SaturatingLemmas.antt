@@ -26,7 +26,7 @@ use Rattle.resolvo_store.specs.Answers.{conflict, replied}
 use Rattle.resolvo_store.specs.Step.{Step}
 use Rattle.resolvo_store.specs.Sound.{IsSound}
 use Rattle.resolvo_store.proofs.AddingLemmas.{first_of}
-use Rattle.resolvo_store.proofs.InvariantLemmas.{with_list}
+use Rattle.resolvo_store.proofs.PartOutcomes.{with_list}
 use Rattle.resolvo_store.proofs.SaturatedLaws.{IsSound-saturated}
 use Rattle.resolvo_store.proofs.SyncedLemmas.{in_step-implied}
 

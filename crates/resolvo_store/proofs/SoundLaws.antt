@@ -18,7 +18,8 @@ use Rattle.resolvo_store.specs.Outcome.{with_disjunction, with_learnt, with_regi
 use Rattle.resolvo_store.specs.Sound.{IsSound, IsPlain, IsVariable, AreLiterals, IsAssigned}
 use Rattle.resolvo_store.proofs.KnownLemmas.{IsKnownSolvable, IsLawful}
 use Rattle.resolvo_store.proofs.StoredLaws as stored
-use Rattle.resolvo_store.proofs.StoredLaws.{IsStored-sound, IsSound-stored}
+use Rattle.resolvo_store.proofs.InternedLaws as interned
+use Rattle.resolvo_store.proofs.StoredStores.{IsStored-sound, IsSound-stored}
 use Rattle.resolvo_store.proofs.TrackingLaws.{AreTracked-clause, AreTracked-origin, AreTracked-variables}
 
 module _ {N S : Type 0} (st : Store N S) (sound : IsSound st) where
@@ -93,13 +94,13 @@ module _ {N S : Type 0} (st : Store N S) (sound : IsSound st) (lawful : IsLawful
   pub IsSound-with_variables : (ss : List S) → All (IsKnownSolvable st.provider.universe) ss
       → IsSound (record st { origins = with_variables st.provider.same_solvable st.origins ss })
   IsSound-with_variables ss known =
-      IsSound-stored (stored.IsStored-with_variables st (IsStored-sound sound) lawful ss known)
+      IsSound-stored (interned.IsStored-with_variables st (IsStored-sound sound) lawful ss known)
       (AreTracked-variables st ss sound.tracked)
 
   pub IsSound-with_variable : (s : S) → IsKnownSolvable st.provider.universe s →
       IsSound (record st { origins = with_variable st.provider.same_solvable st.origins s })
   IsSound-with_variable s known =
-      IsSound-stored (stored.IsStored-with_variable st (IsStored-sound sound) lawful s known)
+      IsSound-stored (interned.IsStored-with_variable st (IsStored-sound sound) lawful s known)
       (AreTracked-variables st (s ∷ []) sound.tracked)
 
   pub IsSound-interned : (r : Requirement) {C : Type 0} (members : C → List S) (cs : List C) →
@@ -114,5 +115,5 @@ module _ {N S : Type 0} (st : Store N S) (sound : IsSound st) (lawful : IsLawful
         ) ∷ [];
       })
   IsSound-interned r members cs known fresh one_each =
-      IsSound-stored (stored.IsStored-interned st (IsStored-sound sound) lawful r members cs known fresh one_each)
+      IsSound-stored (interned.IsStored-interned st (IsStored-sound sound) lawful r members cs known fresh one_each)
       (AreTracked-variables st (flat_map members cs) sound.tracked)

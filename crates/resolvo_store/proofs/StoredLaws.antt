@@ -1,21 +1,18 @@
 -- What is true of a store, but for what is tracked, stays true where it has more in it, or less.
-use Rattle.std.proofs.Common.{◌≡◌, ℕ, ◌+◌, ◌<◌, ◌≤◌, Bool, true, false, cond, List, [], ◌∷◌, ◌++◌, length}
+use Rattle.std.proofs.Common.{◌≡◌, ℕ, ◌+◌, ◌<◌, ◌≤◌, Bool, true, false, cond, List, ◌∷◌, ◌++◌, length}
 use Rattle.std.proofs.Common.{length-append, map, Option, None, Some, IsSome, refl, arith, sym, ◌∙◌, ap, subst}
-use Rattle.std.specs.Prelude.{IfSome, ◌-◌, min, take, slice_get, All, is_some, flat_map}
-use Rattle.std.specs.List.{IsDistinct}
-use Rattle.std.proofs.lemmas.List.{length-map, length-set, map-append, append-nil}
-use Rattle.std.proofs.lemmas.List.Elements.{All-nil, All-cons, All-push, All-take, All-append, All-weaker, All-map}
+use Rattle.std.specs.Prelude.{IfSome, ◌-◌, min, take, slice_get, All, is_some}
+use Rattle.std.proofs.lemmas.List.{length-set, map-append, append-nil}
+use Rattle.std.proofs.lemmas.List.Elements.{All-nil, All-cons, All-push, All-take, All-append, All-weaker}
 use Rattle.std.proofs.lemmas.Option.{slice_get_within}
 use Rattle.std.proofs.lemmas.Map.Keys.{IsDistinct-push}
 use Rattle.providers.specs.declared.requirement.Requirement.{Requirement}
-use Rattle.providers.specs.Requirement.{same_requirement}
-use Rattle.providers.specs.Provider.{knows_requirement, sets_of}
+use Rattle.providers.specs.Provider.{knows_requirement}
 use Rattle.variables.specs.declared.variable_origin.VariableOrigin.{VariableOrigin}
 use Rattle.variables.specs.declared.variable_origin.VariableOrigin.TheVariants.{Solvable}
-use Rattle.variables.specs.Variables.{IsRootFirst, variable_of_solvable, interned_variable, with_variable}
-use Rattle.variables.specs.Variables.{with_variables}
+use Rattle.variables.specs.Variables.{variable_of_solvable}
 use Rattle.variables.proofs.VariableLemmas.{root-append}
-use Rattle.variables.proofs.InterningLemmas.{variable-kept, longer-all}
+use Rattle.variables.proofs.InterningLemmas.{variable-kept}
 use Rattle.decisions.specs.Trail.{Entry, propagated, entries_until, IsTrail, HasLevel}
 use Rattle.decisions.proofs.TrailLemmas.{IsTrail-push}
 use Rattle.resolvo_queue.specs.declared.requires_clause.RequiresClause.{RequiresClause}
@@ -34,84 +31,16 @@ use Rattle.resolvo_store.specs.Store.{Store, values, lists_of, stored_of, clause
 use Rattle.resolvo_store.specs.Refusals.{knows_helper}
 use Rattle.resolvo_store.specs.Outcome.{assigned, without_newest, helper_origin, cut_back, hands_next, adds_clause}
 use Rattle.resolvo_store.specs.Outcome.{with_disjunction, with_learnt, with_registered, with_rewatched}
-use Rattle.resolvo_store.specs.Sound.{IsSound, requires_from, HasOneVariableEach, WatchOwn, IsVariable, AreLiterals}
+use Rattle.resolvo_store.specs.Sound.{requires_from, IsVariable, AreLiterals}
 use Rattle.resolvo_store.specs.Sound.{IsLoaded, IsRegistered, IsAssigned}
-use Rattle.resolvo_store.proofs.TrackingLaws.{AreTracked}
-use Rattle.resolvo_store.proofs.KnownLemmas.{IsKnownOrigin, IsKnownSolvable, IsLawful, variable_known, clause_kept}
-use Rattle.resolvo_store.proofs.KnownLemmas.{known-with_variables}
+use Rattle.resolvo_store.proofs.KnownLemmas.{IsKnownOrigin, variable_known, clause_kept}
 use Rattle.resolvo_store.proofs.WatchLaws.{first_watches_own, theirs_grown, theirs_pushed}
 use Rattle.resolvo_store.proofs.WatchLaws.{theirs_rewatched, found_before, asked_before, lists_before}
 use Rattle.resolvo_store.proofs.WatchLaws.{literals_learnt, literals_listed, literals_asked}
-use Rattle.resolvo_store.proofs.PartLaws.{slice_get-push_cases, All-lists, same_requirement-equivalence, not_among}
-use Rattle.resolvo_store.proofs.PartLaws.{found-push, requires_from-push, AreVariables, AreVariables-with_all}
-use Rattle.resolvo_store.proofs.PartLaws.{interned_all, All-entries_until, IsOnce-entries_until, IsOnce-take}
-
--- ---- a store with more in it, or less
-
--- the clause isn't registered for decisions
-abbrev pub IsUnregistered : {N : Type 0} → Clause N → Type 0
-IsUnregistered c = (id : ℕ) → requires_from id (c ∷ []) ≡ []
-
--- a sound store, but for what is tracked in it
-pub record IsStored {N S : Type 0} (st : Store N S) : Type 0 where
-  pub root_first : IsRootFirst st.origins
-  pub origins_known : All (IsKnownOrigin st.provider.universe) st.origins
-  pub one_variable_each : HasOneVariableEach st
-  pub loaded_once : IsDistinct same_requirement (map (λ e. e.0) st.loaded)
-  pub loaded : All (IsLoaded st) st.loaded
-  pub registered : st.requires ≡ requires_from 0 st.clauses
-  pub clauses : All (IsRegistered st) st.requires
-  pub clauses_known : All (IsKnownClause st.provider.universe st.origins) st.clauses
-  pub learnt_known : All (AreLiterals st) st.learnt
-  pub disjunctions_known : All (λ d. AreLiterals st d.literals) st.disjunctions
-  pub watched : length st.watches ≡ length st.clauses
-  pub own : WatchOwn st
-  pub exact : IsExact (watched_by st) st.watchers
-  pub place : st.place ≤ length st.trail
-  pub trail : IsTrail st.trail
-  pub assigned : All (IsAssigned st) st.trail
-
-pub IsStored-sound : {N S : Type 0} {st : Store N S} → IsSound st → IsStored st
-IsStored-sound is = record {
-  root_first = is.root_first;
-  origins_known = is.origins_known;
-  one_variable_each = is.one_variable_each;
-  loaded_once = is.loaded_once;
-  loaded = is.loaded;
-  registered = is.registered;
-  clauses = is.clauses;
-  clauses_known = is.clauses_known;
-  learnt_known = is.learnt_known;
-  disjunctions_known = is.disjunctions_known;
-  watched = is.watched;
-  own = is.own;
-  exact = is.exact;
-  place = is.place;
-  trail = is.trail;
-  assigned = is.assigned;
-}
-
--- with it, it is sound
-pub IsSound-stored : {N S : Type 0} {st : Store N S} → IsStored st → AreTracked st → IsSound st
-IsSound-stored is tracked = record {
-  root_first = is.root_first;
-  origins_known = is.origins_known;
-  one_variable_each = is.one_variable_each;
-  loaded_once = is.loaded_once;
-  loaded = is.loaded;
-  registered = is.registered;
-  clauses = is.clauses;
-  clauses_known = is.clauses_known;
-  learnt_known = is.learnt_known;
-  disjunctions_known = is.disjunctions_known;
-  watched = is.watched;
-  own = is.own;
-  exact = is.exact;
-  tracked = tracked;
-  place = is.place;
-  trail = is.trail;
-  assigned = is.assigned;
-}
+use Rattle.resolvo_store.proofs.PartLaws.{slice_get-push_cases, same_requirement-equivalence, not_among}
+use Rattle.resolvo_store.proofs.PartLaws.{found-push, requires_from-push, AreVariables}
+use Rattle.resolvo_store.proofs.PartLaws.{All-entries_until, IsOnce-entries_until, IsOnce-take}
+use Rattle.resolvo_store.proofs.StoredStores.{IsUnregistered, IsStored}
 
 module _ {N S : Type 0} (st : Store N S) (sound : IsStored st) where
   -- more variables, and other trackers
@@ -539,49 +468,3 @@ module _ {N S : Type 0} (st : Store N S) (sound : IsStored st) where
       known_origin (Helps.AtLeastOne n) k = k
       known_origin (Helps.ConstrainsViolation v) k = k
       known_origin (Helps.RequiresGate r) k = k
-
-module _ {N S : Type 0} (st : Store N S) (sound : IsStored st) (lawful : IsLawful st.provider) where
-  here : AreVariables st.provider.same_solvable st.origins
-  here = record { root_first = sound.root_first; one_each = sound.one_variable_each }
-
-  pub IsStored-with_variables : (ss : List S) → All (IsKnownSolvable st.provider.universe) ss
-      → IsStored (record st { origins = with_variables st.provider.same_solvable st.origins ss })
-  IsStored-with_variables ss known =
-      IsStored-origins st sound (with_variables st.provider.same_solvable st.origins ss)
-      (longer-all st.provider.same_solvable st.origins ss)
-      (AreVariables-with_all st.provider.same_solvable lawful.reflexive st.origins ss here)
-      (known-with_variables st.provider.universe st.provider.same_solvable st.origins ss known sound.origins_known)
-
-  pub IsStored-with_variable : (s : S) → IsKnownSolvable st.provider.universe s →
-      IsStored (record st { origins = with_variable st.provider.same_solvable st.origins s })
-  IsStored-with_variable s known =
-      IsStored-with_variables (s ∷ []) (All-cons (IsKnownSolvable st.provider.universe) s [] known
-      (All-nil (IsKnownSolvable st.provider.universe)))
-
-  -- lists of solvables got variables, and these are kept for a requirement
-  pub IsStored-interned : (r : Requirement) {C : Type 0} (members : C → List S) (cs : List C) →
-      All (IsKnownSolvable st.provider.universe) (flat_map members cs)
-      → lists_of st r ≡ None → length cs ≡ length (sets_of st.provider.universe r)
-      → IsStored (record st {
-        origins = with_variables st.provider.same_solvable st.origins (flat_map members cs);
-        loaded = st.loaded ++ (
-          r,
-          map (λ c. map (interned_variable st.provider.same_solvable
-              (with_variables st.provider.same_solvable st.origins (flat_map members cs))) (members c)) cs,
-        ) ∷ [];
-      })
-  IsStored-interned r members cs known fresh one_each =
-      let same = st.provider.same_solvable in
-      let os : List (VariableOrigin N S) = with_variables same st.origins (flat_map members cs) in
-      let interned : S → ℕ = interned_variable same os in
-      let grown : Store N S = record st { origins = os } in
-      let within = All-lists (λ s. interned s < length os) members cs
-      (interned_all same lawful.reflexive st.origins (flat_map members cs)) in
-      IsStored-loaded grown (IsStored-with_variables (flat_map members cs) known) r
-      (map (λ c. map interned (members c)) cs) fresh (record {
-        one_a_set = length-map cs (λ c. map interned (members c)) ∙ one_each;
-        variables = All-map (All (IsVariable grown)) (λ c. map interned (members c)) cs
-            (All-weaker (λ c. All (λ s. interned s < length os) (members c))
-            (λ c. All (IsVariable grown) (map interned (members c)))
-            (λ c k. All-map (IsVariable grown) interned (members c) k) cs within);
-      })

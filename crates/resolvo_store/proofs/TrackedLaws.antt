@@ -21,7 +21,7 @@ use Rattle.resolvo_store.specs.Outcome.{adds_clause, helper_for, with_bits, with
 use Rattle.resolvo_store.specs.Sound.{IsSound}
 use Rattle.resolvo_store.proofs.KnownLemmas.{IsLawful, variable_known}
 use Rattle.resolvo_store.proofs.StoredLaws as stored
-use Rattle.resolvo_store.proofs.StoredLaws.{IsStored, IsStored-sound, IsSound-stored}
+use Rattle.resolvo_store.proofs.StoredStores.{IsStored, IsStored-sound, IsSound-stored}
 use Rattle.resolvo_store.proofs.TrackingLaws.{AreTracked, IsTracking-origin}
 
 -- ---- the clauses of one variable more

@@ -1,5 +1,5 @@
 -- A cache that keeps more: what is kept is still right, and what was kept is still kept.
-use Rattle.std.proofs.Common.{rules, ◌≡◌, Bool, true, false, cond, ℕ, ◌<◌, List, [], ◌∷◌}
+use Rattle.std.proofs.Common.{rules, ◌≡◌, Bool, true, false, cond, ℕ, ◌<◌, List, ◌∷◌}
 use Rattle.std.proofs.Common.{◌^◌, leb, ◌++◌, length, slice_get, is_some, Option, None, Some, take}
 use Rattle.std.proofs.Common.{drop, get_or, true≢false, ◌≤◌, ◌∙◌, ap, refl, sym, subst, arith}
 use Rattle.std.specs.List.{list_any}
@@ -16,21 +16,19 @@ use Rattle.typed_ids.specs.Refusals.{IsGrowthRefusal}
 use Rattle.typed_ids.specs.declared.error.StoreError.{StoreError}
 use Rattle.typed_ids.specs.declared.error.StoreError.TheVariants.{OutOfMemory, IdSpace}
 use Rattle.typed_ids.specs.declared.version_set_id.VersionSetId.{VersionSetId}
-use Rattle.typed_ids.specs.declared.version_set_union_id.VersionSetUnionId.{VersionSetUnionId}
 use Rattle.providers.specs.Dependencies.{needs_of}
 use Rattle.providers.specs.Provider.{matching, non_matching, sorted, sets_of}
 use Rattle.providers.specs.contracts.requirement.RequirementPartialEq.TheImpl.{eq-value}
 use Rattle.providers.specs.declared.candidates.Candidates.{Candidates}
 use Rattle.providers.specs.declared.dependencies.Dependencies.{Dependencies}
 use Rattle.providers.specs.declared.requirement.Requirement.{Requirement}
-use Rattle.solver_cache.specs.Cache.{Cache, IsAnswer, IsCache, is_queried, is_set_queried, is_cached, same_set}
+use Rattle.solver_cache.specs.Cache.{Cache, IsAnswer, IsCache, is_set_queried, is_cached, same_set}
 use Rattle.solver_cache.specs.Cache.{sorted_of, list_at}
 use Rattle.solver_cache.specs.declared.list_id.ListKind.TheVariants.{Matching, NonMatching, Sorted}
 use Rattle.providers.specs.Requirement.{same_requirement}
 use Rattle.providers.specs.declared.requirement.Requirement.TheVariants.{Single, Union}
 use Rattle.solver_cache.specs.Functions.{Provider, MayAnswer}
-use Rattle.solver_cache.specs.Hints.{hints_of}
-use Rattle.solver_cache.specs.Questions.{BeginsWith, IsLater, IsOnce, IsMarked, IsQueried, IsMatched, IsSorted}
+use Rattle.solver_cache.specs.Questions.{BeginsWith, IsLater, IsOnce, IsSorted}
 use Rattle.solver_cache.specs.Questions.{AreSorted, IsRefusedOf, IsRefusedOfSets, lacks_candidates}
 use Rattle.solver_cache.specs.declared.error.CacheError.{CacheError}
 use Rattle.solver_cache.specs.declared.error.CacheError.TheVariants.{Store, Cancelled}
@@ -478,62 +476,3 @@ module _ {D N S A H : Type 0} (has : H → S → Bool) (p : Provider N S) (old m
       wider : (not (is_set_queried p mid v) && lacks_candidates p mid (p.universe.set_name v)) ≡ true →
           list_any test vs ≡ true
       wider h = list_any_at test vs i d lt (this _ _ refl (lacks_later has p (p.universe.set_name v) mid new later) h)
-
--- ---- a union that isn't kept
-
-pub none_of : {X : Type 0} (o : Option X) → is_some o ≡ false → o ≡ None
-none_of None h = refl
-none_of (Some x) h = cc
-
--- an entry that doesn't pass changes no look-up
-skips : {K V : Type 0} (test : K → Bool) (es : List (K × V)) (e : K × V) → test e.0 ≡ false →
-    is_cached test (es ++ e ∷ []) ≡ is_cached test es
-skips test [] e h = ap (λ b. is_some (cond b (Some e.1) None)) h
-skips test (f ∷ es) e h =
-    elim (test f.0) as (λ b. is_some (cond b (Some f.1) (lookup test (es ++ e ∷ [])))
-    ≡ is_some (cond b (Some f.1) (lookup test es)))
-    [ true ↦ refl | false ↦ skips test es e h ]
-
-module _ {D N S A H : Type 0} (has : H → S → Bool) (p : Provider N S) (may : MayAnswer N S A)
-    (u : VersionSetUnionId) where
-  abbrev kept_union : Cache D N S A H → Bool
-  kept_union c = is_cached (same_requirement (Union u)) c.sorted
-
-  asked_skips : (n : N) (c d : Cache D N S A H) → IsQueried p may has c n d → kept_union d ≡ kept_union c
-  asked_skips n c d h = by_kept (is_queried p c n) h
-    where
-      by_kept : (b : Bool) → IsOnce b c (λ new. (answer : Candidates S A) × IsAnswer p may n answer
-          × IsMarked p may has c (hints_of answer) new.hinted ×
-          (new ≡ record c { candidates = c.candidates ++ (n, answer) ∷ []; hinted = new.hinted })) d →
-          kept_union d ≡ kept_union c
-      by_kept true h = ap kept_union h
-      by_kept false h = ap kept_union h.3
-
-  matched_skips : (v : VersionSetId) (c d : Cache D N S A H) → IsMatched p may has c v d → kept_union d ≡ kept_union c
-  matched_skips v c d h = by_kept (is_cached (same_set v) c.matching) h
-    where
-      by_kept : (b : Bool) → IsOnce b c (λ new. (mid : Cache D N S A H)
-          × IsQueried p may has c (p.universe.set_name v) mid ×
-          (new ≡ record mid { matching = mid.matching ++ (v, matching p.universe p.answers v) ∷ [] })) d →
-          kept_union d ≡ kept_union c
-      by_kept true h = ap kept_union h
-      by_kept false h = ap kept_union h.2 ∙ asked_skips (p.universe.set_name v) c h.0 h.1
-
-  sorted_skips : (v : VersionSetId) (c d : Cache D N S A H) → IsSorted p may has c v d → kept_union d ≡ kept_union c
-  sorted_skips v c d h = by_kept (is_cached (same_requirement (Single v)) c.sorted) h
-    where
-      by_kept : (b : Bool) → IsOnce b c (λ new. (mid : Cache D N S A H) × IsMatched p may has c v mid ×
-          (new ≡ record mid {
-            sorted = mid.sorted ++ (Single v, sorted p.universe p.answers p.same_solvable v)
-                ∷ [];
-          })) d → kept_union d ≡ kept_union c
-      by_kept true h = ap kept_union h
-      by_kept false h =
-          ap kept_union h.2 ∙ skips (same_requirement (Union u)) h.0.sorted
-          (Single v, sorted p.universe p.answers p.same_solvable v) refl ∙ matched_skips v c h.0 h.1
-
-  -- version sets that are asked for in turn keep no union
-  pub union_still_new : (vs : List VersionSetId) (c d : Cache D N S A H) → AreSorted p may has c vs d →
-      kept_union c ≡ false → kept_union d ≡ false
-  union_still_new [] c d h new = ap kept_union h ∙ new
-  union_still_new (v ∷ vs) c d h new = union_still_new vs h.0 d h.2 (sorted_skips v c h.0 h.1 ∙ new)

@@ -5,8 +5,9 @@ use Rattle.resolvo_store.specs.Answers.{added}
 use Rattle.resolvo_store.specs.Store.{Provider, gathered, stored_of, values}
 use Rattle.resolvo_store.specs.Lists.{HasMarks}
 use Rattle.resolvo_store.proofs.CallerLaws.{store_in}
-use Rattle.resolvo_store.proofs.AddingLemmas.{step_added}
-use Rattle.resolvo_store.proofs.InvariantLemmas.{after_direct, with_list}
+use Rattle.resolvo_store.proofs.LearningLemmas.{step_added}
+use Rattle.resolvo_store.proofs.InvariantLemmas.{after_direct}
+use Rattle.resolvo_store.proofs.PartOutcomes.{with_list}
 use Rattle.resolvo_store.proofs.MarkedLaws.{marks_more, added_or_same}
 use Rattle.resolvo_store.proofs.WatchLaws.{two_if_first}
 use Rattle.resolvo_store.proofs.store.ClauseStore.add.Given.{Over}

@@ -12,7 +12,8 @@ use Rattle.resolvo_store.specs.Step.{Step}
 use Rattle.resolvo_store.specs.Store.{Store, StoreState, Provider, store_of, gathered}
 use Rattle.resolvo_store.specs.Tracking.{is_helper_among}
 use Rattle.resolvo_store.proofs.AddingLemmas.{both, failed}
-use Rattle.resolvo_store.proofs.InvariantLemmas.{after_tracked, tracked_or_same, with_list}
+use Rattle.resolvo_store.proofs.InvariantLemmas.{after_tracked}
+use Rattle.resolvo_store.proofs.PartOutcomes.{tracked_or_same, with_list}
 use Rattle.resolvo_store.proofs.CallerLaws.{store_in}
 use Rattle.resolvo_store.proofs.KnownLemmas.{IsLawful}
 use Rattle.resolvo_store.proofs.MarkedLaws.{marks_more, forbidden_or_same}

@@ -9,7 +9,8 @@ use Rattle.resolvo_store.specs.Store.{Store, StoreState, Provider, store_of, gat
 use Rattle.resolvo_store.proofs.AddingLemmas.{step_grown, first_of_bump, always_said}
 use Rattle.resolvo_store.proofs.CallerLaws.{store_in}
 use Rattle.resolvo_store.proofs.CountedLemmas.{counted_still}
-use Rattle.resolvo_store.proofs.InvariantLemmas.{after_bumped, bumped_or_same}
+use Rattle.resolvo_store.proofs.InvariantLemmas.{after_bumped}
+use Rattle.resolvo_store.proofs.PartOutcomes.{bumped_or_same}
 use Rattle.resolvo_store.proofs.WalkLemmas.{walks_no_more, walks_still}
 use Rattle.resolvo_store.proofs.store.ClauseStore.bump.Given.{Over}
 use Rattle.resolvo_store.proofs.store.ClauseStore.bump.Goals as goal

@@ -11,7 +11,8 @@ use Rattle.resolvo_store.specs.Store.{StoreState, Provider, store_of, gathered}
 use Rattle.resolvo_store.proofs.CallerLaws.{store_in}
 use Rattle.resolvo_store.proofs.AddingLemmas.{both, if_ok, step_grown, first_of_disjunction}
 use Rattle.resolvo_store.proofs.CountedLemmas.{follows_disjunction, keeps_counted}
-use Rattle.resolvo_store.proofs.InvariantLemmas.{after_disjunction, on_ok, on_err}
+use Rattle.resolvo_store.proofs.InvariantLemmas.{after_disjunction}
+use Rattle.resolvo_store.proofs.PartOutcomes.{on_ok, on_err}
 use Rattle.resolvo_store.proofs.MarkedLaws.{marks_asked}
 use Rattle.resolvo_store.proofs.store.ClauseStore.disjunction.Given.{Over}
 use Rattle.resolvo_store.proofs.store.ClauseStore.disjunction.Goals as goal

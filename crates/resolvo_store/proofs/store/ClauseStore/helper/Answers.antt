@@ -12,7 +12,8 @@ use Rattle.std.specs.Prelude.{List}
 use Rattle.resolvo_store.proofs.AddingLemmas.{step_foreseen, step_grown, if_ok}
 use Rattle.resolvo_store.proofs.HelperLemmas.{helper_known_is, first_of_helper, first_of_unknown_helper}
 use Rattle.resolvo_store.proofs.CallerLaws.{store_in}
-use Rattle.resolvo_store.proofs.InvariantLemmas.{after_origins, on_ok, on_err}
+use Rattle.resolvo_store.proofs.InvariantLemmas.{after_origins}
+use Rattle.resolvo_store.proofs.PartOutcomes.{on_ok, on_err}
 use Rattle.resolvo_store.proofs.SoundLaws.{IsSound-helper}
 use Rattle.resolvo_store.proofs.store.ClauseStore.helper.Given.{Over}
 use Rattle.resolvo_store.proofs.store.ClauseStore.helper.Goals as goal

@@ -7,8 +7,10 @@ use Rattle.resolvo_store.specs.Answers.{added}
 use Rattle.resolvo_store.specs.Store.{Provider, gathered}
 use Rattle.resolvo_store.specs.Lists.{HasMarks}
 use Rattle.resolvo_store.proofs.CallerLaws.{store_in}
-use Rattle.resolvo_store.proofs.AddingLemmas.{step_learnt, first_of_learnt, not_empty}
-use Rattle.resolvo_store.proofs.InvariantLemmas.{after_learnt, with_list}
+use Rattle.resolvo_store.proofs.AddingLemmas.{first_of_learnt}
+use Rattle.resolvo_store.proofs.LearningLemmas.{step_learnt, not_empty}
+use Rattle.resolvo_store.proofs.InvariantLemmas.{after_learnt}
+use Rattle.resolvo_store.proofs.PartOutcomes.{with_list}
 use Rattle.resolvo_store.proofs.MarkedLaws.{marks_more, learnt_or_same}
 use Rattle.resolvo_store.proofs.store.ClauseStore.learnt.Given.{Over}
 use Rattle.resolvo_store.proofs.store.ClauseStore.learnt.Goals as goal

@@ -6,7 +6,7 @@ use Rattle.resolvo_store.proofs.CountedLemmas.{none_counted}
 use Rattle.resolvo_store.specs.Lists.{lists_of_loaded, stored_disjunctions, IsConsistent}
 use Rattle.resolvo_store.specs.Sound.{IsSound}
 use Rattle.resolvo_store.specs.Store.{StoreState, Provider, store_of, gathered}
-use Rattle.resolvo_store.proofs.InvariantLemmas.{with_list, new_may_ask}
+use Rattle.resolvo_store.proofs.PartOutcomes.{with_list, new_may_ask}
 use Rattle.resolvo_store.proofs.SoundSteps.{IsSound-new_store}
 use Rattle.resolvo_store.proofs.store.ClauseStore.new.Given.{Over}
 use Rattle.resolvo_store.proofs.store.ClauseStore.new.Goals as goal

@@ -22,13 +22,15 @@ use Rattle.resolvo_store.specs.Lists.{HasMarks}
 use Rattle.resolvo_store.specs.Step.{Step}
 use Rattle.resolvo_store.specs.Walks.{OwesFirst}
 use Rattle.resolvo_store.specs.Store.{StoreState, Provider, store_of, gathered, stored_of, values}
-use Rattle.resolvo_store.proofs.AddingLemmas.{as_asked, step_foreseen, step_registered, first_of_requires}
+use Rattle.resolvo_store.proofs.AddingLemmas.{as_asked, step_foreseen, first_of_requires}
+use Rattle.resolvo_store.proofs.LearningLemmas.{step_registered}
 use Rattle.resolvo_store.proofs.AddingLemmas.{first_of_unknown, first_of_unloaded, first_of_negating, first_of_full}
 use Rattle.resolvo_store.proofs.AddingLemmas.{all_known_is, each_known}
 use Rattle.resolvo_store.proofs.AskingLemmas.{condition_seen}
 use Rattle.resolvo_store.proofs.CallerLaws.{store_in}
 use Rattle.resolvo_store.proofs.CountedLemmas.{counted_registered}
-use Rattle.resolvo_store.proofs.InvariantLemmas.{after_registered, on_ok, on_err, with_list}
+use Rattle.resolvo_store.proofs.InvariantLemmas.{after_registered}
+use Rattle.resolvo_store.proofs.PartOutcomes.{on_ok, on_err, with_list}
 use Rattle.resolvo_store.proofs.ListLemmas.{items_of, length_disjunctions, lookup-some}
 use Rattle.resolvo_store.proofs.MarkedLaws.{marks_more, added_or_same}
 use Rattle.resolvo_store.proofs.WatchLaws.{two_if_first}

@@ -12,7 +12,8 @@ use Rattle.resolvo_store.specs.Store.{StoreState, Provider, store_of, gathered}
 use Rattle.resolvo_store.proofs.AddingLemmas.{first_of_rewatch, step_foreseen, without_literal, step_rewatched}
 use Rattle.resolvo_store.proofs.AddingLemmas.{step_unmoved, err_replied}
 use Rattle.resolvo_store.proofs.CallerLaws.{store_in}
-use Rattle.resolvo_store.proofs.InvariantLemmas.{after_rewatch, with_list}
+use Rattle.resolvo_store.proofs.InvariantLemmas.{after_rewatch}
+use Rattle.resolvo_store.proofs.PartOutcomes.{with_list}
 use Rattle.resolvo_store.proofs.ListLemmas.{literals-kept}
 use Rattle.resolvo_store.proofs.MarkedLaws.{marks_rewatched}
 use Rattle.resolvo_store.proofs.store.ClauseStore.rewatch.Given.{Over}

@@ -17,7 +17,7 @@ use Rattle.resolvo_store.specs.Lists.{lists_of_loaded, IsConsistent, HasMarks}
 use Rattle.resolvo_store.specs.Outcome.{origins_loaded, variables_loaded}
 use Rattle.resolvo_store.specs.Step.{lacks_ids, may_be_refused}
 use Rattle.resolvo_store.specs.Store.{Store, Provider, StoreState, store_of, gathered}
-use Rattle.resolvo_store.proofs.InvariantLemmas.{after_variables, after_load, store_with}
+use Rattle.resolvo_store.proofs.LoadedInvariants.{after_variables, after_load, store_with}
 use Rattle.resolvo_store.proofs.CallerLaws.{store_in, left_of}
 use Rattle.resolvo_store.proofs.KnownLemmas.{IsLawful, IsKnownSolvable, all_known}
 use Rattle.resolvo_store.proofs.ListLemmas.{insert-kept, items_of, lookup-none}

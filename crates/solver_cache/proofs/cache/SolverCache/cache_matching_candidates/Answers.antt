@@ -5,7 +5,8 @@ use Rattle.solver_cache.specs.Cache.{is_cached, is_set_queried, same_set}
 use Rattle.solver_cache.specs.Functions.{Provider, gathered}
 use Rattle.solver_cache.specs.Questions.{IsLater, IsQueried}
 use Rattle.solver_cache.specs.declared.error.CacheError.TheVariants.{Store}
-use Rattle.solver_cache.proofs.CacheLemmas.{found_matching, handed_on, later_same, more_matching, none_of, once_kept}
+use Rattle.solver_cache.proofs.CacheLemmas.{found_matching, handed_on, later_same, more_matching, once_kept}
+use Rattle.solver_cache.proofs.UnionLemmas.{none_of}
 use Rattle.solver_cache.proofs.CacheLemmas.{once_new, right_matched, value_last}
 use Rattle.solver_cache.proofs.FilteringLemmas.{asked_matching, later_matching, memory_refused}
 use Rattle.solver_cache.proofs.cache.SolverCache.cache_matching_candidates.Given.{Over}

@@ -6,7 +6,8 @@ use Rattle.solver_cache.specs.Functions.{Provider, gathered}
 use Rattle.solver_cache.specs.Questions.{IsLater, IsQueried}
 use Rattle.solver_cache.specs.declared.error.CacheError.TheVariants.{Store}
 use Rattle.solver_cache.proofs.CacheLemmas.{found_non_matching, handed_on, later_same, more_non_matching}
-use Rattle.solver_cache.proofs.CacheLemmas.{none_of, once_kept, once_new, right_unmatched, value_last}
+use Rattle.solver_cache.proofs.CacheLemmas.{once_kept, once_new, right_unmatched, value_last}
+use Rattle.solver_cache.proofs.UnionLemmas.{none_of}
 use Rattle.solver_cache.proofs.FilteringLemmas.{asked_non_matching, later_non_matching, memory_refused}
 use Rattle.solver_cache.proofs.cache.SolverCache.cache_non_matching_candidates.Given.{Over}
 use Rattle.solver_cache.proofs.cache.SolverCache.cache_non_matching_candidates.Goals as goal

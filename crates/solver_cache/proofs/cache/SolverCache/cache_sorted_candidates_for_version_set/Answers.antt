@@ -9,7 +9,8 @@ use Rattle.solver_cache.specs.Functions.{Provider, gathered}
 use Rattle.solver_cache.specs.Questions.{IsLater, IsMatched}
 use Rattle.solver_cache.specs.declared.error.CacheError.TheVariants.{Store}
 use Rattle.solver_cache.proofs.CacheLemmas.{found_single, handed_on, later_same, more_list, more_sorted}
-use Rattle.solver_cache.proofs.CacheLemmas.{none_of, once_kept, once_new, right_single, same_is, value_last}
+use Rattle.solver_cache.proofs.CacheLemmas.{once_kept, once_new, right_single, same_is, value_last}
+use Rattle.solver_cache.proofs.UnionLemmas.{none_of}
 use Rattle.solver_cache.proofs.FilteringLemmas.{memory_refused}
 use Rattle.solver_cache.proofs.SortingLemmas.{later_sorted, matched_sorted, not_kept}
 use Rattle.solver_cache.proofs.cache.SolverCache.cache_sorted_candidates_for_version_set.Given.{Over}

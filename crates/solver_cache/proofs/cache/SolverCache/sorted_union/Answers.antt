@@ -9,8 +9,10 @@ use Rattle.solver_cache.specs.Functions.{Provider, gathered}
 use Rattle.solver_cache.specs.Questions.{IsLater}
 use Rattle.solver_cache.specs.Unanswered.{AreUnsorted}
 use Rattle.solver_cache.specs.declared.error.CacheError.TheVariants.{Store}
-use Rattle.solver_cache.proofs.CacheLemmas.{found_sorted, handed_on, later_same, more_list, more_sorted, none_of}
-use Rattle.solver_cache.proofs.CacheLemmas.{once_kept, once_new, right_sorted, same_is, union_still_new, value_last}
+use Rattle.solver_cache.proofs.CacheLemmas.{found_sorted, handed_on, later_same, more_list, more_sorted}
+use Rattle.solver_cache.proofs.UnionLemmas.{none_of}
+use Rattle.solver_cache.proofs.CacheLemmas.{once_kept, once_new, right_sorted, same_is, value_last}
+use Rattle.solver_cache.proofs.UnionLemmas.{union_still_new}
 use Rattle.solver_cache.proofs.FilteringLemmas.{memory_refused}
 use Rattle.solver_cache.proofs.SortingLemmas.{later_sorted, not_kept}
 use Rattle.solver_cache.proofs.UnansweredLemmas.{all_sorted}
