@@ -11,7 +11,8 @@
 //!
 //! [`answer_with_notes`] also notes version sets that no version is in. [`explain_with_notes`] does too, and its answer
 //! says why each version is picked, or reports why there is no solution (`specs/Explained`). [`answer_all`] prints the
-//! answers of all indexes of an input, in turn (`specs/Printed`).
+//! answers of all indexes of an input, in turn (`specs/Printed`). Crates that write answers in other forms use
+//! [`write_reason`] and its parts.
 #![tactic(auto)]
 
 mod answering;
@@ -36,3 +37,4 @@ pub use input_answers::answer_all;
 pub use outcome::Outcome;
 pub use print_fault::PrintFault;
 pub use printer::Printer;
+pub use reasons::{write_name, write_reason, write_set, write_solvable};

@@ -28,8 +28,8 @@ pub(crate) fn write_reasons<I: Interner>(
     Ok(())
 }
 
-/// Appends a reason.
-fn write_reason<I: Interner>(
+/// Appends a reason, without an end of line.
+pub fn write_reason<I: Interner>(
     interner: &I,
     reason: Reason<I::NameId, I::SolvableId>,
     text: &mut String<I::Alloc>,
@@ -159,15 +159,16 @@ fn write_parts<I: Interner>(interner: &I, condition: Condition, text: &mut Strin
     }
 }
 
-/// Appends a version set, behind the name of its package.
-fn write_set<I: Interner>(interner: &I, set: VersionSetId, text: &mut String<I::Alloc>) -> Done
+/// Appends a version set, behind the name of its package. Nothing is appended for one that isn't known.
+pub fn write_set<I: Interner>(interner: &I, set: VersionSetId, text: &mut String<I::Alloc>) -> Done
     ensures { OnOk result (IsAppended text.old text.new
         (text_of_set (I.universe interner.now) (I.texts interner.now) set)) }
 {
     write_requirement(interner, Requirement::Single(set), text)
 }
 
-pub(crate) fn write_solvable<I: Interner>(
+/// Appends a solvable as the interner displays it. Nothing is appended for one that isn't known.
+pub fn write_solvable<I: Interner>(
     interner: &I,
     solvable: I::SolvableId,
     text: &mut String<I::Alloc>,
@@ -181,7 +182,8 @@ pub(crate) fn write_solvable<I: Interner>(
     Ok(())
 }
 
-fn write_name<I: Interner>(interner: &I, name: I::NameId, text: &mut String<I::Alloc>) -> Done
+/// Appends a name as the interner displays it. Nothing is appended for one that isn't known.
+pub fn write_name<I: Interner>(interner: &I, name: I::NameId, text: &mut String<I::Alloc>) -> Done
     ensures { OnOk result (IsAppended text.old text.new
         (text_of_name (I.universe interner.now) (I.texts interner.now) name)) }
 {

@@ -9,8 +9,9 @@ use resolvo_ids::{StoreError, VersionSetId};
 use resolvo_pool::{DependencyProvider, Interner, Requirement};
 use solutions::Reason;
 
-/// Whether the second line speaks of what the first one needs.
-pub(crate) fn leads_to<P: DependencyProvider>(
+/// Whether the second line speaks of what the first one needs. The graph of [`write_dot`](crate::dot::write_dot) has an
+/// edge there.
+pub fn leads_to<P: DependencyProvider>(
     alloc: P::Alloc,
     provider: &P,
     from: &Line<P::NameId, P::SolvableId, P::Alloc>,

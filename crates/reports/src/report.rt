@@ -56,12 +56,12 @@ fn write_lines<P: DependencyProvider>(
     let [first, others @ ..] = lines else {
         return Ok(());
     };
-    write_with_names(provider, names, first, text)?;
+    write_line_with_names(provider, names, first, text)?;
     write_others(provider, names, first, others, text)
 }
 
-/// Appends what a line says, and which one of the names is meant where there is no package.
-fn write_with_names<P: DependencyProvider>(
+/// Appends the text of a line, without an end of line, and which one of the names is meant where there is no package.
+pub fn write_line_with_names<P: DependencyProvider>(
     provider: &P,
     names: &[P::NameId],
     line: &Line<P::NameId, P::SolvableId, P::Alloc>,
@@ -94,7 +94,7 @@ fn write_others<P: DependencyProvider>(
     for line in others {
         let joins = goes_on(room, says_of(provider, name, line));
         text.push_str(between(joins))?;
-        write_with_names(provider, names, line, text)?;
+        write_line_with_names(provider, names, line, text)?;
         room = room_after(joins, full, room);
         name = needed_by(provider, line);
     }
