@@ -77,7 +77,7 @@ def both(outcome):
 UNREADABLE, NOTHING, ANSWER = both("line 1"), both("nothing"), both("answer")
 UNREAD, UNWRITTEN = both("unread"), both("unwritten")
 INDEX, SCRIPT = ("index",), ("script",)
-MOST_SETS = (1 << 21) // 3  # of three words each, in the line of an index
+MOST_SETS = (1 << 21) // 3  # of three words each, in a line of an index
 PRINTED = bytes(range(33, 127))
 
 INPUTS = [
