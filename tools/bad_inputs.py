@@ -103,6 +103,10 @@ INPUTS = [
     Input("a request of too many needs", {"index": "line 1"},
           lambda format, size: many(b"needs a 1..2 ", b"request ")(format, max(size, 13 * (MOST_SETS + 1))),
           formats=INDEX),
+    Input("a version of too many needs", {"index": "line 2"},
+          lambda format, size: many(b"needs a 1.0.0..2.0.0 ", b"request semver needs a 1.0.0..2.0.0\na 1.0.0 ")(
+              format, max(size, 21 * (MOST_SETS + 1))),
+          formats=INDEX),
     Input("a request and blanks", {"index": "no version"}, many(b" ", b"request"), formats=INDEX),
     Input("a request of no needs", UNREADABLE, many(b"x ", b"request "), formats=INDEX),
     Input("a long number", UNREADABLE, many(b"0", b"request needs a ", b"1..2\n"), formats=INDEX),

@@ -17,7 +17,7 @@ few_words : (begun line : List ℕ) → length (words_from begun line) ≤ lengt
 few_words begun [] = omega (arith, begun_few begun)
 few_words begun (b ∷ line) = by (b == 32) (few_words [] line) (few_words (begun ++ b ∷ []) line)
   where
-    by : (blank : Bool) → length (words_from [] line) ≤ length line
+    by : (blank : Bool) → length (words_from [] line) ≤ 0 + length line
         → length (words_from (begun ++ b ∷ []) line) ≤ length (begun ++ b ∷ []) + length line
         → length (if blank then begun_word begun ++ words_from [] line else words_from (begun ++ b ∷ []) line)
         ≤ length begun + length (b ∷ line)
