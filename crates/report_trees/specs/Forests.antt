@@ -32,9 +32,10 @@ module _ (leads : ℕ → ℕ → Bool) where
   IsLedTo None line = ⊤
   IsLedTo (Some parent) line = leads parent line ≡ true
 
-  -- a row's line is led to by the line right below which it stands
-  abbrev pub IsLed : Row → Type 0
-  IsLed row = IsLedTo row.parent row.line
+  -- each line is led to by the one right below which it stands; the first trees stand right below this one
+  abbrev pub AreLed : Option ℕ → Forest → Type 0
+  AreLed parent none = ⊤
+  AreLed parent (tree line below beside) = IsLedTo parent line × AreLed (Some line) below × AreLed parent beside
 
   -- of all these lines, only those of a root's own tree lead to it
   abbrev pub HasOwnRoots : List ℕ → Forest → Type 0
@@ -45,7 +46,7 @@ module _ (leads : ℕ → ℕ → Bool) where
   -- a forest of this many lines
   pub record IsForest (count : ℕ) (forest : Forest) : Type 0 where
     pub each_once : IsPermutation (range_with_len 0 count) (lines_of forest)
-    pub led : All IsLed (all_rows forest)
+    pub led : AreLed None forest
     pub own_roots : HasOwnRoots (lines_of forest) forest
 
 -- for each line, to which lines it leads

@@ -1,0 +1,3 @@
+pub mod ForestLemmas
+pub mod GrowingLemmas
+pub mod RowLemmas
