@@ -1,3 +1,4 @@
 pub mod ForestLemmas
 pub mod GrowingLemmas
 pub mod RowLemmas
+pub mod TreeLemmas

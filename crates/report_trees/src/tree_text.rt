@@ -62,11 +62,14 @@ fn write_row<A: Allocator + Copy>(
 }
 
 /// Appends two blanks for each step.
+#[tactic(auto, using(crate::proofs::TreeLemmas::indent_more))]
 fn write_indent<A: Allocator>(depth: usize, text: &mut String<A>) -> Done
     ensures { OnOk result (string_bytes text.new ≡ string_bytes text.old ++ indent depth) }
 {
-    for _step in 0..depth {
+    let mut left = depth;
+    while left > 0 {
         text.push_str("  ")?;
+        left -= 1;
     }
     Ok(())
 }

@@ -1,4 +1,4 @@
-use Rattle.std.proofs.Common.{◌∙◌, arith, length}
+use Rattle.std.proofs.Common.{◌≡◌, ◌∙◌, arith, flat_map, length}
 use Rattle.std.proofs.lemmas.Result.{IfOk-weaker}
 use Rattle.report_trees.specs.Forests.{has_edge}
 use Rattle.report_trees.specs.Growing.{AreRows, lists}
@@ -18,7 +18,8 @@ loop-line-preserved g c =
 
 pub returns : goal.returns
 returns g c =
-    IfOk-weaker c.joined.result
+    IfOk-weaker c.joined.result (λ rows. rows.items ≡ flat_map (λ tree. tree.items) c.deref.result.now)
+    (λ rows. AreRows (has_edge (lists c.args.edges.now)) (length c.args.edges.now) rows.items)
     (λ rows are. grown_from (has_edge (lists c.args.edges.now)) c.loop-line.trees.items c.deref.result.now rows.items
     c.loop-line.line (length c.args.edges.now) c.loop-line-test.false c.loop-line.invariant.1 c.loop-line.invariant.0
     c.deref.ensures.value are) c.joined.ensures
