@@ -150,10 +150,10 @@ grows leads branch row depth parent (tree line below beside) (suc place) within 
     let others = rows_of depth parent beside in
     let both : length (under ++ others) ≡ length under + length others = length-append under others in
     elim (cases_lt place (length under)) [
-      inl here ↦ below_row leads branch depth parent line below beside place here led
+      | inl here ↦ below_row leads branch depth parent line below beside place here led
           (grows leads branch row (depth + 1) (Some line) below place here
           (at ∙ get_or_append_left under others row place here) branch_led led.1)
-    | inr past ↦
+      | inr past ↦
           let within_others : place - length under < length others = omega arith in
           beside_row leads branch depth parent line below beside place past within_others led
           (grows leads branch row depth parent beside (place - length under) within_others

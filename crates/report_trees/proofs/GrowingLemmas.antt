@@ -28,8 +28,8 @@ module _ (leads : ℕ → ℕ → Bool) where
     each_once = growing.each_once;
     own_roots = λ root other from apart there.
         elim (cases_lt line root) [
-          inl past ↦ growing.own_roots root other (omega arith) apart there
-        | inr here ↦
+          | inl past ↦ growing.own_roots root other (omega arith) apart there
+          | inr here ↦
               let same : line ≡ root = omega arith in
               let P : ℕ → Type 0 = λ l. other ≢ l → LeadNotTo leads l (get_or trees other []) in
               subst P same (none_leads other) apart
@@ -69,11 +69,11 @@ module _ (leads : ℕ → ℕ → Bool) where
     tree_after k =
         let P : List Row → Type 0 = λ rows. IsTreeOf leads k rows in
         elim (cases_eq k line) [
-          inl here ↦
+          | inl here ↦
               subst P (sym (ap (λ n. get_or after n []) here ∙ at_line)) (no_tree k)
-        | inr apart ↦
+          | inr apart ↦
               elim (cases_eq k spot.tree) [
-                inl there ↦
+                | inl there ↦
                     let rows = get_or trees spot.tree [] in
                     let first : Row = record { line = line; depth = 0; parent = None } in
                     let row : Row = get_or rows spot.row first in
@@ -82,7 +82,7 @@ module _ (leads : ℕ → ℕ → Bool) where
                     (grown_tree leads k line rows (get_or trees line []) spot.row row
                     (subst Q (sym there) (growing.trees_of spot.tree)) (growing.trees_of line) found.row_within
                     (get_or_default rows spot.row first row found.row_within) (found.leads_there first))
-              | inr others ↦ subst P (sym (at_other k apart others)) (growing.trees_of k)
+                | inr others ↦ subst P (sym (at_other k apart others)) (growing.trees_of k)
               ]
         ]
 
@@ -106,12 +106,12 @@ module _ (leads : ℕ → ℕ → Bool) where
     was_there : (root : ℕ) → root ≢ line → get_or after root [] ≢ [] → get_or trees root [] ≢ []
     was_there root apart there empty =
         elim (cases_eq root spot.tree) [
-          inl here ↦
+          | inl here ↦
               let none_there : length (get_or trees spot.tree []) ≡ 0 =
               ap length (ap (λ n. get_or trees n []) (sym here) ∙ empty) in
               let some = found.row_within in
               absurd (omega arith)
-        | inr others ↦ there (at_other root apart others ∙ empty)
+          | inr others ↦ there (at_other root apart others ∙ empty)
         ]
 
     own_after : (root other : ℕ) → line ≤ root → other ≢ root → get_or after root [] ≢ []
@@ -119,22 +119,22 @@ module _ (leads : ℕ → ℕ → Bool) where
     own_after root other from apart there =
         let P : List Row → Type 0 = λ rows. LeadNotTo leads root rows in
         elim (cases_eq root line) [
-          inl here ↦ absurd (there (ap (λ n. get_or after n []) here ∙ at_line))
-        | inr beside ↦
+          | inl here ↦ absurd (there (ap (λ n. get_or after n []) here ∙ at_line))
+          | inr beside ↦
               let past : line + 1 ≤ root = omega arith in
               let old : (o : ℕ) → o ≢ root → LeadNotTo leads root (get_or trees o []) =
               λ o differs. growing.own_roots root o past differs (was_there root beside there) in
               elim (cases_eq other line) [
-                inl gone ↦
+                | inl gone ↦
                     subst P (sym (ap (λ n. get_or after n []) gone ∙ at_line))
                     (All-nil (λ (row : Row). leads row.line root ≡ false))
-              | inr kept ↦
+                | inr kept ↦
                     elim (cases_eq other spot.tree) [
-                      inl grown ↦
+                      | inl grown ↦
                           subst P (sym (ap (λ n. get_or after n []) grown ∙ at_tree))
                           (all_grafted (λ l. leads l root ≡ false) (get_or trees spot.tree []) spot.row _
                           (old spot.tree (λ e. apart (grown ∙ e))) (old line (λ e. beside (sym e))))
-                    | inr same ↦ subst P (sym (at_other other kept same)) (old other apart)
+                      | inr same ↦ subst P (sym (at_other other kept same)) (old other apart)
                     ]
               ]
         ]
@@ -215,8 +215,11 @@ module _ (leads : ℕ → ℕ → Bool) where
         is = ap (λ r. r ++ flat_map (λ rs. rs) trees) alone ∙ ap (λ t. top ∷ (under ++ t)) rest.is;
         lines = ap (λ r. r ++ flat_map lines_in trees) its_lines ∙ ap (λ t. line ∷ (lines_of below ++ t)) rest.lines;
         led = (tt, led.1, rest.led);
-        own = (subst (λ l. P l (line ∷ lines_of below)) (sym one.0)
-            (subst (P root) its_lines (here some)), rest.own);
+        own = (
+          subst (λ l. P l (line ∷ lines_of below)) (sym one.0)
+              (subst (P root) its_lines (here some)),
+          rest.own,
+        );
       }
 
   collected : (all : List ℕ) (from : ℕ) (trees : List (List Row))
@@ -238,17 +241,17 @@ module _ (leads : ℕ → ℕ → Bool) where
       let own = lines_in (get_or trees line []) in
       let P : ℕ → Type 0 = λ other. leads other line ≡ true → Contains own other in
       all_in lines_in P trees refl (λ place within.
-          elim (cases_eq place line) [
-            inl here ↦
-                subst (λ (k : ℕ). All P (lines_in (get_or trees k []))) (sym here)
-                (All-weaker (Contains own) P (λ other contains leads_there. contains) own (All-contains_itself own))
-          | inr apart ↦
-                let rows = get_or trees place [] in
-                All-map P (λ (row : Row). row.line) rows
-                (All-weaker (λ (row : Row). leads row.line line ≡ false) (λ (row : Row). P row.line)
-                (λ row no yes. absurd (true≢false (sym yes ∙ no))) rows
-                (growing.own_roots line place (let from : 0 ≤ line = omega arith in from) apart there))
-          ])
+      elim (cases_eq place line) [
+        | inl here ↦
+            subst (λ (k : ℕ). All P (lines_in (get_or trees k []))) (sym here)
+            (All-weaker (Contains own) P (λ other contains leads_there. contains) own (All-contains_itself own))
+        | inr apart ↦
+            let rows = get_or trees place [] in
+            All-map P (λ (row : Row). row.line) rows
+            (All-weaker (λ (row : Row). leads row.line line ≡ false) (λ (row : Row). P row.line)
+            (λ row no yes. absurd (true≢false (sym yes ∙ no))) rows
+            (growing.own_roots line place (let from : 0 ≤ line = omega arith in from) apart there))
+      ])
 
   pub all_grown : (trees : List (List Row)) (rows : List Row) → IsGrowing leads 0 trees
       → rows ≡ flat_map (λ t. t) trees → AreRows leads (length trees) rows

@@ -1,4 +1,5 @@
 pub mod ForestLemmas
 pub mod GrowingLemmas
+pub mod ReportLemmas
 pub mod RowLemmas
 pub mod TreeLemmas

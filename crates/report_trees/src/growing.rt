@@ -44,17 +44,18 @@ fn single_trees<A: Allocator + Copy>(
     let mut trees = Vec::new(alloc);
     for line in 0..count {
         let mut tree = Vec::new(alloc);
-        tree.push(Row { line, depth: 0, parent: None })?;
+        tree.push(Row {
+            line,
+            depth: 0,
+            parent: None,
+        })?;
         trees.push(tree)?;
     }
     Ok(trees)
 }
 
 /// The rows of all trees.
-fn joined<A: Allocator + Copy>(
-    alloc: A,
-    trees: &[Vec<Row, A>],
-) -> Result<Vec<Row, A>, AllocError>
+fn joined<A: Allocator + Copy>(alloc: A, trees: &[Vec<Row, A>]) -> Result<Vec<Row, A>, AllocError>
     ensures { IfOk result (λ rows. rows.items ≡ flat_map (λ tree. tree.items) trees.now) }
 {
     let mut rows = Vec::new(alloc);
@@ -86,11 +87,7 @@ fn attach<A: Allocator + Copy>(
 }
 
 /// The first row of another tree that leads to the line.
-fn find<A: Allocator>(
-    edges: &[Vec<bool, A>],
-    trees: &[Vec<Row, A>],
-    line: usize,
-) -> Option<Spot>
+fn find<A: Allocator>(edges: &[Vec<bool, A>], trees: &[Vec<Row, A>], line: usize) -> Option<Spot>
     ensures { let leads = has_edge (lists edges.now) in MatchOption result
         ((tree : ℕ) → tree ≢ line → LeadNotTo leads line (slice_index_or (lists trees.now) tree []))
         (LeadsFrom leads line (lists trees.now)) }

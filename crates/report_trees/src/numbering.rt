@@ -19,7 +19,10 @@ pub(crate) fn numbered<A: Allocator + Copy>(
     let mut next = 1;
     for row in rows {
         let is = is_referred_to(edges, rows, *row);
-        all.push(NumberedRow { row: *row, number: number_if(is, next) })?;
+        all.push(NumberedRow {
+            row: *row,
+            number: number_if(is, next),
+        })?;
         next = next_number(is, next);
     }
     Ok(all)

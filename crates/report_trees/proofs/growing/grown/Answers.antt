@@ -8,9 +8,10 @@ use Rattle.report_trees.proofs.growing.grown.Goals as goal
 pub loop-line-init : goal.loop-line-init
 loop-line-init g c =
     let leads = has_edge (lists c.args.edges.now) in
-    let count = length c.args.edges.now in
-    (length_of_single leads c.in_ok-trees.trees.items count c.in_ok-trees.ensures,
-    begins leads count count (lists c.in_ok-trees.trees.items) c.in_ok-trees.ensures (omega arith))
+    let count = length c.args.edges.now in (
+      length_of_single leads c.in_ok-trees.trees.items count c.in_ok-trees.ensures,
+      begins leads count count (lists c.in_ok-trees.trees.items) c.in_ok-trees.ensures (omega arith),
+    )
 
 pub loop-line-preserved : goal.loop-line-preserved
 loop-line-preserved g c =
