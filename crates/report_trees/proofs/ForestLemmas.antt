@@ -1,12 +1,12 @@
 -- Forests and their rows: a branch comes right below a line.
-use Rattle.std.proofs.Common.{◌≡◌, ◌∙◌, ℕ, zero, suc, ◌+◌, ◌-◌, ◌<◌, ◌≤◌, Bool, true, List, [], ◌∷◌, ◌++◌, length, map}
+use Rattle.std.proofs.Common.{◌≡◌, ◌∙◌, ℕ, zero, suc, ◌+◌, ◌-◌, ◌<◌, ◌≤◌, Bool, true, List, ◌∷◌, ◌++◌, length, map}
 use Rattle.std.proofs.Common.{Option, None, Some, arith, refl, sym, ap, subst, get_or, inl, inr}
 use Rattle.std.specs.List.{All}
 use Rattle.std.proofs.lemmas.Bool.{cases_lt}
-use Rattle.std.proofs.lemmas.List.{append-nil, append_assoc, map-append, get_or-append_right, get_or_append_left}
+use Rattle.std.proofs.lemmas.List.{append_assoc, map-append, get_or-append_right, get_or_append_left}
 use Rattle.std.proofs.lemmas.List.{length-append}
-use Rattle.std.proofs.lemmas.List.Elements.{All-append, All-cons, All-nil, All-weaker}
-use Rattle.report_trees.specs.Forests.{AreLed, Forest, IsLedTo, all_rows, lines_of, none, rows_of, tree}
+use Rattle.std.proofs.lemmas.List.Elements.{All-append, All-cons, All-nil}
+use Rattle.report_trees.specs.Forests.{AreLed, Forest, all_rows, lines_of, none, rows_of, tree}
 use Rattle.report_trees.specs.Growing.{IsOneTree, IsShallow, IsTreeOf, grafted, lines_in, moved_below, parent_or}
 use Rattle.report_trees.specs.declared.row.Row.{Row}
 use Rattle.report_trees.proofs.RowLemmas.{grafted_left, grafted_right}
@@ -90,7 +90,8 @@ no_rows : (depth : ℕ) (parent : Option ℕ) (forest : Forest) (place : ℕ) �
 no_rows depth parent forest place is within =
     let e : length (rows_of depth parent forest) ≡ 0 = ap (λ f. length (rows_of depth parent f)) is in omega arith
 
-module _ (leads : ℕ → ℕ → Bool) (branch : Forest) (depth : ℕ) (parent : Option ℕ) (line : ℕ) (below beside : Forest) where
+module _ (leads : ℕ → ℕ → Bool) (branch : Forest) (depth : ℕ) (parent : Option ℕ) (line : ℕ)
+    (below beside : Forest) where
   below_first : AreLed leads parent (tree line below beside) → AreLed leads (Some line) branch
       → Grown leads depth parent (tree line below beside) zero branch
   below_first led branch_led =
@@ -174,7 +175,8 @@ pub grown_tree : (leads : ℕ → ℕ → Bool) (root line : ℕ) (rows branch :
     → leads row.line line ≡ true → IsTreeOf leads root (grafted rows place branch)
 grown_tree leads root line rows branch place row t b within at leads_there =
     let new : Grown leads 0 None t.forest place b.forest =
-    grows leads b.forest row 0 None t.forest place (let P : List Row → Type 0 = λ rs. place < length rs in subst P t.is within)
+    grows leads b.forest row 0 None t.forest place
+    (let P : List Row → Type 0 = λ rs. place < length rs in subst P t.is within)
     (let P : List Row → Type 0 = λ rs. row ≡ get_or rs place row in subst P t.is at)
     (branch_is_led leads line row.line b.forest leads_there b.one b.led) t.led in
     record {

@@ -1,22 +1,24 @@
 -- How lines grow together.
 use Rattle.std.proofs.Common.{◌≡◌, ◌≢◌, ◌∙◌, ℕ, zero, suc, ◌+◌, ◌<◌, ◌≤◌, Bool, true, false, List, [], ◌∷◌, ◌++◌}
-use Rattle.std.proofs.Common.{arith, refl, sym, ap, subst, inl, inr, length, map, get_or, Option, None, Some, Contains, true≢false}
+use Rattle.std.proofs.Common.{arith, refl, sym, ap, subst, inl, inr, length, map, get_or}
+use Rattle.std.proofs.Common.{None, Some, Contains, true≢false}
 use Rattle.std.proofs.Math.ListN.{set}
 use Rattle.std.specs.List.{All, flat_map, range_with_len}
 use Rattle.std.specs.List.Sorted.{IsPermutation}
 use Rattle.std.proofs.lemmas.Bool.{cases_lt, cases_eq}
-use Rattle.std.proofs.lemmas.List.{get_or-set_same, get_or-set_other, get_or_default, get_or_past, length-set, append-nil}
+use Rattle.std.proofs.lemmas.List.{get_or-set_same, get_or-set_other, get_or_default, get_or_past, length-set}
+use Rattle.std.proofs.lemmas.List.{append-nil}
 use Rattle.std.proofs.lemmas.List.{get_or-map, length-map, map-append, map-set}
 use Rattle.std.proofs.lemmas.List.FromFn.{map-range_with_len_more}
 use Rattle.std.proofs.lemmas.List.Elements.{All-contains_itself, All-map, All-nil, All-weaker}
 use Rattle.std.proofs.lemmas.List.Sorted.{IsPermutation-refl, IsPermutation-trans}
-use Rattle.report_trees.specs.Forests.{AreLed, Forest, HasOwnRoots, IsForest, all_rows, lines_of, none, rows_of, tree}
+use Rattle.report_trees.specs.Forests.{AreLed, Forest, HasOwnRoots, all_rows, lines_of, none, rows_of, tree}
 use Rattle.report_trees.specs.Growing.{AreRows, IsGrowing, IsOneTree, IsTreeOf, LeadNotTo, LeadsFrom, grafted}
 use Rattle.report_trees.specs.Growing.{lines_in, lists, single_trees}
 use Rattle.std.specs.declared.vec.Vec.{Vec}
 use Rattle.report_trees.specs.declared.growing.Spot.{Spot}
 use Rattle.report_trees.specs.declared.row.Row.{Row}
-use Rattle.report_trees.proofs.ForestLemmas.{grown_tree, joined, led_joined, lines_joined, lines_of_rows, rows_joined}
+use Rattle.report_trees.proofs.ForestLemmas.{grown_tree, lines_of_rows}
 use Rattle.report_trees.proofs.RowLemmas.{all_grafted, all_in, lines_grafted, put_in, taken_out}
 
 module _ (leads : ℕ → ℕ → Bool) where
@@ -93,7 +95,8 @@ module _ (leads : ℕ → ℕ → Bool) where
         let there = found.within in
         let one : length (set trees line []) ≡ length trees = length-set trees line [] in
         let rows = get_or trees spot.tree [] in
-        let P : List Row → Type 0 = λ t. IsPermutation (lines_in (get_or trees line []) ++ lines_in t) (lines_in with_branch) in
+        let branch : List ℕ = lines_in (get_or trees line []) in
+        let P : List Row → Type 0 = λ t. IsPermutation (branch ++ lines_in t) (lines_in with_branch) in
         let Q : ℕ → Type 0 = λ n. IsPermutation (range_with_len 0 n) (flat_map lines_in after) in
         subst Q (sym same)
         (IsPermutation-trans _ _ _ growing.each_once
@@ -322,7 +325,8 @@ attach_is {A} leads vectors line spot gone new rows branch empty rows_are branch
     ∙ ap (λ x. set (set all line []) spot.tree (grafted (get_or all spot.tree []) spot.row x)) branch_is))))))
     (attached leads line all spot growing (omega arith) found)
 
-pub grown_from : {A : Type 0} (leads : ℕ → ℕ → Bool) (vectors seen : List (Vec Row A)) (rows : List Row) (line count : ℕ)
+pub grown_from : {A : Type 0} (leads : ℕ → ℕ → Bool) (vectors seen : List (Vec Row A)) (rows : List Row)
+    (line count : ℕ)
     → line ≤ 0 → IsGrowing leads line (lists vectors) → length vectors ≡ count → seen ≡ vectors
     → rows ≡ flat_map (λ v. v.items) seen → AreRows leads count rows
 grown_from {A} leads vectors seen rows line count done growing same shown are =

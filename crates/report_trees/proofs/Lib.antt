@@ -1,3 +1,4 @@
+pub mod Examples
 pub mod ForestLemmas
 pub mod GrowingLemmas
 pub mod ReportLemmas

@@ -1,5 +1,5 @@
 -- What makes a text a report as a tree.
-use Rattle.std.proofs.Common.{◌≡◌, ◌<◌, ◌≤◌, ℕ, Bool, List, arith, length, map, subst}
+use Rattle.std.proofs.Common.{◌≡◌, ◌<◌, ◌≤◌, Bool, List, arith, length, map, subst}
 use Rattle.std.specs.declared.string.String.{String}
 use Rattle.resolvo_pool.specs.Provider.{Answers, Universe}
 use Rattle.resolvo_pool.specs.Texts.{IsContinuedBy, Texts}

@@ -1,6 +1,6 @@
 -- What makes a text that of a forest, and what grows by one with each line.
-use Rattle.std.proofs.Common.{◌≡◌, ◌∙◌, ℕ, zero, suc, ◌+◌, ◌-◌, ◌<◌, Bool, arith, List, [], ◌∷◌, ◌++◌, ap, get_or, length}
-use Rattle.std.proofs.Common.{codes, map, subst, sym, take}
+use Rattle.std.proofs.Common.{◌≡◌, ◌∙◌, ℕ, zero, suc, ◌+◌, ◌-◌, ◌<◌, Bool, arith, List, [], ◌∷◌, ◌++◌}
+use Rattle.std.proofs.Common.{ap, get_or, length, codes, map, subst, sym, take}
 use Rattle.std.specs.declared.vec.Vec.{Vec}
 use Rattle.std.proofs.lemmas.List.{length-map, map_more}
 use Rattle.report_trees.specs.Forests.{IsForest, has_edge}

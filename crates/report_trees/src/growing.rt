@@ -106,7 +106,8 @@ fn find<A: Allocator>(edges: &[Vec<bool, A>], trees: &[Vec<Row, A>], line: usize
 fn find_row<A: Allocator>(edges: &[Vec<bool, A>], rows: &[Row], line: usize) -> Option<usize>
     ensures { let leads = has_edge (lists edges.now) in MatchOption result
         (LeadNotTo leads line rows.now)
-        (λ place. (place < length rows.now) × ((row : Row) → leads (slice_index_or rows.now place row).line line ≡ true)) }
+        (λ place. (place < length rows.now)
+        × ((row : Row) → leads (slice_index_or rows.now place row).line line ≡ true)) }
 {
     rows.iter().position(|row| has_edge(edges, row.line, line))
 }

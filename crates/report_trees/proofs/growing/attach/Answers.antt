@@ -1,4 +1,4 @@
-use Rattle.std.proofs.Common.{◌≡◌, ◌∙◌, ap, sym, subst}
+use Rattle.std.proofs.Common.{◌∙◌, ap, sym, subst}
 use Rattle.report_trees.specs.Forests.{has_edge}
 use Rattle.report_trees.specs.Growing.{IsShallow, LeadsFrom, lists}
 use Rattle.report_trees.proofs.ForestLemmas.{are_shallow}

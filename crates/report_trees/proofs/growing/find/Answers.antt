@@ -1,4 +1,4 @@
-use Rattle.std.proofs.Common.{◌≢◌, ◌∙◌, ◌+◌, List, below_more, sym, subst}
+use Rattle.std.proofs.Common.{◌≢◌, ◌∙◌, List, below_more, subst}
 use Rattle.report_trees.specs.Forests.{has_edge}
 use Rattle.report_trees.specs.Growing.{LeadNotTo, lists}
 use Rattle.report_trees.specs.declared.row.Row.{Row}

@@ -1,4 +1,4 @@
-use Rattle.std.proofs.Common.{◌≡◌, ◌≢◌, ℕ, ◌<◌, map, slice_index_or, []}
+use Rattle.std.proofs.Common.{◌≢◌, ℕ, ◌<◌, slice_index_or, []}
 use Rattle.report_trees.specs.Forests.{has_edge}
 use Rattle.report_trees.specs.Growing.{LeadNotTo, lists}
 use Rattle.report_trees.proofs.growing.find.Given as goal

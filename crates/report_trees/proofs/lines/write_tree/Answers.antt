@@ -1,4 +1,4 @@
-use Rattle.std.proofs.Common.{◌≡◌, ◌≤◌, arith, length}
+use Rattle.std.proofs.Common.{◌≤◌, arith, length}
 use Rattle.std.proofs.lemmas.Result.{on_ok_weaker}
 use Rattle.report_trees.proofs.ReportLemmas.{tree_of_few}
 use Rattle.report_trees.proofs.lines.write_tree.Goals as goal
