@@ -19,7 +19,8 @@ pub(crate) fn write_conflict<D: DependencyProvider>(
 {
     let named = named_in(*text.allocator(), reasons)?;
     if named.len() > 1 {
-        write_proposals(provider, reasons, text)?;
+        write_proposals(provider, reasons, text)
+    } else {
+        Ok(())
     }
-    Ok(())
 }
