@@ -53,6 +53,16 @@ PICK_VERSIONS |= {
     "line": (3, "line {} unreadable\n", r"standard input:{}:\d+: [ -~]+\n"),
     "none": (1, NONE, r"(standard input:1: note: [ -~]+\n)*"),
 }
+# With --json it says nothing of an index on standard error.
+JSON = indexes(0, "", (4, ANYTHING, LINE))
+JSON |= {word: (0, r'\{"best_up_to":(?s:.*)', "") for word in ("a 1", "no version", "versions", "indexes")}
+JSON |= {
+    "answer": (0, r'\{.*"picked":\[\{"name":"a","version":"2"\},\{"name":"b","version":"1"\}\],.*"wishes":1\}\n', ""),
+    "none": (1, r'\{"input":.*"reasons":\[\{"if":null,"kind":(?s:.*)', ""),
+    "line": (3, r'\{.*"status":"unreadable","unreadable":\{"column":\d+,"line":{},"said":"(?s:.*)"\}\}\n', ""),
+}
+# No graph can be written.
+FULL = PICK_VERSIONS | {"none": (4, NONE, PICK_VERSIONS["none"][2] + r'"/dev/full": [ -~]+\n')}
 # It takes one index.
 PICK |= {"indexes": (3, "line 3 unreadable\n", "")}
 # It tries the first megabyte of any input, and takes as many searches as the answer has bytes.
@@ -61,18 +71,24 @@ ROOMS = {"any": (0, r"\d+ buffers: as picking.h says\n", "")}
 
 @dataclass(frozen=True)
 class Kind:
-    """A program's format, what it says, and whether it reads files and standard input."""
+    """A program's format, what it says, whether it reads files and standard input, and its flags."""
 
     format: str
     outcomes: dict
     has_files: bool = False
     has_input: bool = True
+    words: tuple = ()  # before the files
+    crate: str = ""  # if it isn't the program's name
 
 
 PROGRAMS = {
     "clause_store": Kind("script", SCRIPTS),
     "clause_store_dialog": Kind("script", SCRIPTS),
     "pick_versions": Kind("index", PICK_VERSIONS, has_files=True),
+    "json": Kind("index", JSON, has_files=True, words=("--json",), crate="pick_versions"),
+    "dot": Kind("index", PICK_VERSIONS, True, words=("--dot", "/dev/null"), crate="pick_versions"),
+    "full": Kind("index", FULL, True, words=("--dot", "/dev/full"), crate="pick_versions"),
+    "certificate": Kind("index", PICK_VERSIONS, True, words=("--certificate", "/dev/null"), crate="pick_versions"),
     "pick": Kind("index", PICK, has_files=True, has_input=False),
     "rooms": Kind("index", ROOMS),
 }
@@ -167,7 +183,7 @@ def unlike(name, said, pattern):
 
 def ended(program, case, room, given):
     """Runs the program as the input says."""
-    words, source = [program.path], os.devnull
+    words, source = [program.path, *program.kind.words], os.devnull
     if case.way in FILES:
         words.append(file_for(case.way, room, given))
     elif case.way == "directory input":
