@@ -16,8 +16,8 @@ use solutions::Cause;
 
 type Done = Result<(), StoreError>;
 
-/// Searches for what is requested, and writes the answer, with explanations, to a text that is empty so far. One of these
-/// names may be meant where there is no package.
+/// Searches for what is requested, and writes the answer, with explanations, to a text that is empty so far. One of
+/// these names may be meant where there is no package.
 pub(crate) fn write_explained<D: DependencyProvider>(
     provider: &D,
     names: &[D::NameId],

@@ -67,7 +67,8 @@ impl<'o> Records<'o> {
     /// Records why the index of these lines has no solution.
     fn add(&mut self, alloc: Global, lines: &[Line<'_>], steps: u64) -> Result<(), AllocError>
         ensures graphs { OnOk result (IsAdded self.old.graphs self.new.graphs (ShowsLines
-            ⟦<SmallIndex as ProviderFunctions>⟧.functions ⟦<SmallIndex as Interner>⟧.texts (map plain_line lines.now))) }
+            ⟦<SmallIndex as ProviderFunctions>⟧.functions ⟦<SmallIndex as Interner>⟧.texts
+            (map plain_line lines.now))) }
     {
         match &mut self.graphs {
             Some(graphs) => append_graph(alloc, lines, steps, &mut graphs.text),
