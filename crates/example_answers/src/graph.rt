@@ -12,8 +12,8 @@ use resolvo_ids::StoreError;
 use resolvo_pool::{ConditionalRequirement, DependencyProvider, Interner, ProviderFunctions};
 use std::alloc::{AllocError, Global};
 
-/// Appends a graph that shows why the index of these lines has no solution, in Graphviz' language, if a search in no more
-/// steps than these answers that it has none. An error says that it answers otherwise, or that memory was refused.
+/// Appends a graph that shows why the index of these lines has no solution, in Graphviz' language, if a search in no
+/// more steps than these answers that it has none. An error says that it answers otherwise, or that memory was refused.
 pub fn append_graph(
     alloc: Global,
     lines: &[Line<'_>],

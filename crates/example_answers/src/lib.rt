@@ -12,8 +12,8 @@
 //! [`answer_with_notes`] also notes version sets that no version is in. [`explain_with_notes`] does too, and its answer
 //! says why each version is picked, or reports why there is no solution (`specs/Explained`); [`append_graph`] shows
 //! that as a graph (`specs/Shown`). [`answer_all`] prints the answers of all indexes of an input, in turn
-//! (`specs/Printed`).
-//! Crates that write answers in other forms use [`write_reason`] and its parts, [`words_of`] and [`first_number`].
+//! (`specs/Printed`). Crates that write answers in other forms use [`write_reason`] and its parts, [`words_of`] and
+//! [`first_number`].
 #![tactic(auto)]
 
 mod answering;
