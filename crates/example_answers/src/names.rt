@@ -18,7 +18,7 @@ pub(crate) fn names_of(alloc: Global, index: &SmallIndex) -> Result<Vec<NameId>,
     for place in 0..NAMES {
         let name = NameId::from_index(place);
         if !index.knows_name(name) {
-            break;
+            return Ok(names);
         }
         names.push(name)?;
     }
