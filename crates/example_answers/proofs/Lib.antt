@@ -1,4 +1,7 @@
 pub mod AnswerLemmas
+pub mod ConflictLemmas
 pub mod ExplainLemmas
 pub mod IndexLemmas
+pub mod NameLemmas
 pub mod PrintLemmas
+pub mod ShownLemmas
