@@ -96,17 +96,23 @@ reports_none A p texts names requested reasons shown told report text-0 text-1 t
 
 module _ {S : Type 0} (functions : SmallIndex → Provider ℕ S) (texts : SmallIndex → Texts ℕ S) where
   -- what a search answers to an index
-  pub index_explained : (index : SmallIndex) (outcome : Outcome) (text : List ℕ)
-      → ExplainsAnswer Global (functions index) (texts index) (names_of index) index.request.items outcome text
+  pub index_explained : (index : SmallIndex) (names : List ℕ) (outcome : Outcome) (text : List ℕ)
+      → names ≡ names_of index
+      → ExplainsAnswer Global (functions index) (texts index) names index.request.items outcome text
       → ExplainsIndex functions texts index outcome text
-  index_explained index Picked text says meant is =
+  index_explained index names Picked text same says meant is =
       record { meant = meant; index = index; says_index = refl; is_index = is; says = says }
-  index_explained index NoSolution text says meant is =
-      record { meant = meant; index = index; says_index = refl; is_index = is; says = says }
-  index_explained index GaveUp text says meant is =
+  index_explained index names NoSolution text same says meant is = record {
+    meant = meant;
+    index = index;
+    says_index = refl;
+    is_index = is;
+    says = subst (λ n. ReportsNoSolution Global (functions index) (texts index) n index.request.items text) same says;
+  }
+  index_explained index names GaveUp text same says meant is =
       inr (record { meant = meant; index = index; says_index = refl; is_index = is; says = says })
-  index_explained index Unreadable text says meant is = absurd says
-  index_explained index Failed text says meant is = absurd says
+  index_explained index names Unreadable text same says meant is = absurd says
+  index_explained index names Failed text same says meant is = absurd says
 
   -- what answers an index that was read answers what is said
   pub explained_of_read : (said : Result IndexText ℕ) (index : SmallIndex) (outcome : Outcome) (text : List ℕ)

@@ -1,5 +1,4 @@
 pub mod AnswerLemmas
-pub mod ConflictLemmas
 pub mod ExplainLemmas
 pub mod IndexLemmas
 pub mod NameLemmas

@@ -25,9 +25,17 @@ shows_none A p texts requested reasons shown graph is_refuted same is_graph = re
   is_graph = subst (λ r. IsGraph A p.universe texts p.same_name p.same_solvable p.answers r graph) same is_graph;
 }
 
--- what is so of the index that was read is so of what its lines say
-pub shown_of_read : (Says : SmallIndex → Type 0) (said : Result IndexText ℕ) (index : SmallIndex)
-    → AreRead IsSaid said (Ok index) → Says index → OfIndex Says said
-shown_of_read Says (Ok meant) index read says =
-    record { meant = meant; index = index; says_index = refl; is_index = read; says = says }
-shown_of_read Says (Err number) index read says = absurd read
+-- what shows that of the index that was read shows it of what its lines say
+pub shown_of_read : {N S : Type 0} (functions : SmallIndex → Provider N S) (texts : SmallIndex → Texts N S)
+    (said : Result IndexText ℕ) (index : SmallIndex) (requested : List ConditionalRequirement) (graph : List ℕ)
+    → AreRead IsSaid said (Ok index) → requested ≡ index.request.items
+    → ShowsNoSolution Global (functions index) (texts index) requested graph
+    → OfIndex (λ i. ShowsNoSolution Global (functions i) (texts i) i.request.items graph) said
+shown_of_read functions texts (Ok meant) index requested graph read same shows = record {
+  meant = meant;
+  index = index;
+  says_index = refl;
+  is_index = read;
+  says = subst (λ r. ShowsNoSolution Global (functions index) (texts index) r graph) same shows;
+}
+shown_of_read functions texts (Err number) index requested graph read same shows = absurd read

@@ -14,8 +14,8 @@ pub returns-in-Unsolvable : goal.returns-in-Unsolvable
 returns-in-Unsolvable g c shown =
     let p = provided g c.args.provider.now in
     let requested = c.args.requested.now in
-    let promised = c.in_ok-choice.ensures in
-    let graph = c.in_ok-write_dot.ensures in (
+    let promised = c.in_ok-refutation.ensures in
+    let graph = c.in_ok-write_dot-in-Unsolvable.ensures in (
       graph.0,
       graph.1,
       shows_none _ p _ requested _ _ graph.0

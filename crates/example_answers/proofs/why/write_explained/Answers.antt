@@ -31,7 +31,7 @@ returns-in_ok-write_conflict-in-Unsolvable g c =
     let requested = c.args.requested.now in
     let promised = c.in_ok-choice.ensures in
     let refuted =
-        refuted_is p requested _ _ c.in-Unsolvable.is promised.none promised.reasons_so promised.reasons_enough in
+    refuted_is p requested _ _ c.in-Unsolvable.is promised.none promised.reasons_so promised.reasons_enough in
     let report = c.in_ok-write_report_with_names-in-Unsolvable.ensures in
     reports_none _ p _ c.args.names.now requested _ _ _ report.0 _ _ _ _ _ refuted
     (forbidden_by p g.met.D.NameId.Eq.laws.refl g.met.D.SolvableId.Eq.laws.refl g.met.D.SolvableId.SameValue.same _
