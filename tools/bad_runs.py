@@ -53,14 +53,6 @@ PICK_VERSIONS |= {
     "line": (3, "line {} unreadable\n", r"standard input:{}:\d+: [ -~]+\n"),
     "none": (1, NONE, r"(standard input:1: note: [ -~]+\n)*"),
 }
-# With --json it says nothing of an index on standard error.
-JSON = indexes(0, "", (4, ANYTHING, LINE))
-JSON |= {word: (0, r'\{"best_up_to":(?s:.*)', "") for word in ("a 1", "no version", "versions", "indexes")}
-JSON |= {
-    "answer": (0, r'\{.*"picked":\[\{"name":"a","version":"2"\},\{"name":"b","version":"1"\}\],.*"wishes":1\}\n', ""),
-    "none": (1, r'\{"input":.*"reasons":\[\{"if":null,"kind":(?s:.*)', ""),
-    "line": (3, r'\{.*"status":"unreadable","unreadable":\{"column":\d+,"line":{},"said":"(?s:.*)"\}\}\n', ""),
-}
 # No graph can be written.
 FULL = PICK_VERSIONS | {"none": (4, NONE, PICK_VERSIONS["none"][2] + r'"/dev/full": [ -~]+\n')}
 # It takes one index.
@@ -85,10 +77,8 @@ PROGRAMS = {
     "clause_store": Kind("script", SCRIPTS),
     "clause_store_dialog": Kind("script", SCRIPTS),
     "pick_versions": Kind("index", PICK_VERSIONS, has_files=True),
-    "json": Kind("index", JSON, has_files=True, words=("--json",), crate="pick_versions"),
     "dot": Kind("index", PICK_VERSIONS, True, words=("--dot", "/dev/null"), crate="pick_versions"),
     "full": Kind("index", FULL, True, words=("--dot", "/dev/full"), crate="pick_versions"),
-    "certificate": Kind("index", PICK_VERSIONS, True, words=("--certificate", "/dev/null"), crate="pick_versions"),
     "pick": Kind("index", PICK, has_files=True, has_input=False),
     "rooms": Kind("index", ROOMS),
 }
