@@ -53,6 +53,8 @@ PICK_VERSIONS |= {
     "line": (3, "line {} unreadable\n", r"standard input:{}:\d+: [ -~]+\n"),
     "none": (1, NONE, r"(standard input:1: note: [ -~]+\n)*"),
 }
+# No graph can be written.
+FULL = PICK_VERSIONS | {"none": (4, NONE, PICK_VERSIONS["none"][2] + r'"/dev/full": [ -~]+\n')}
 # It takes one index.
 PICK |= {"indexes": (3, "line 3 unreadable\n", "")}
 # It tries the first megabyte of any input, and takes as many searches as the answer has bytes.
@@ -61,18 +63,22 @@ ROOMS = {"any": (0, r"\d+ buffers: as picking.h says\n", "")}
 
 @dataclass(frozen=True)
 class Kind:
-    """A program's format, what it says, and whether it reads files and standard input."""
+    """A program's format, what it says, whether it reads files and standard input, and its flags."""
 
     format: str
     outcomes: dict
     has_files: bool = False
     has_input: bool = True
+    words: tuple = ()  # before the files
+    crate: str = ""  # if it isn't the program's name
 
 
 PROGRAMS = {
     "clause_store": Kind("script", SCRIPTS),
     "clause_store_dialog": Kind("script", SCRIPTS),
     "pick_versions": Kind("index", PICK_VERSIONS, has_files=True),
+    "dot": Kind("index", PICK_VERSIONS, True, words=("--dot", "/dev/null"), crate="pick_versions"),
+    "full": Kind("index", FULL, True, words=("--dot", "/dev/full"), crate="pick_versions"),
     "pick": Kind("index", PICK, has_files=True, has_input=False),
     "rooms": Kind("index", ROOMS),
 }
@@ -167,7 +173,7 @@ def unlike(name, said, pattern):
 
 def ended(program, case, room, given):
     """Runs the program as the input says."""
-    words, source = [program.path], os.devnull
+    words, source = [program.path, *program.kind.words], os.devnull
     if case.way in FILES:
         words.append(file_for(case.way, room, given))
     elif case.way == "directory input":

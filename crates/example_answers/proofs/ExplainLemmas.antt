@@ -1,13 +1,14 @@
 -- What follows from what a search answers, for an answer with explanations.
 use Rattle.std.proofs.Common.{◌≡◌, ◌<◌, ◌∙◌, ℕ, List, [], ◌∷◌, ◌++◌, Result, Ok, Err, codes, length, append-nil, ap}
 use Rattle.std.proofs.Common.{arith}
-use Rattle.std.proofs.Common.{refl, inl, inr, subst, sym}
+use Rattle.std.proofs.Common.{append_assoc, refl, inl, inr, subst, sym}
 use Rattle.std.specs.declared.alloc.Global.{Global}
 use Rattle.index_text.specs.Index.{IndexText}
 use Rattle.resolvo_pool.specs.Functions.{Provider}
 use Rattle.resolvo_pool.specs.Texts.{Texts}
 use Rattle.resolvo_pool.specs.Types.ConditionalRequirement.{ConditionalRequirement}
-use Rattle.reports.specs.Reports.{IsReport}
+use Rattle.corrections.specs.Proposals.{IsForbidden, named_in}
+use Rattle.report_trees.specs.Trees.{IsTreeOrReport}
 use Rattle.solutions.specs.Needed.{AreCaused}
 use Rattle.solutions.specs.Newest.{newest}
 use Rattle.solutions.specs.declared.needed.Cause.{Cause}
@@ -22,8 +23,9 @@ use Rattle.example_index.specs.declared.fault.IndexFault.TheVariants as Fault
 use Rattle.example_index.specs.declared.index.SmallIndex.{SmallIndex}
 use Rattle.example_answers.specs.Answers.{IsPicked, IsRefuted, best_line, header}
 use Rattle.example_answers.specs.Explained.{ExplainsAnswer, ExplainsIndex, ExplainsOf, ExplainsSolution}
-use Rattle.example_answers.specs.Explained.{ReportsNoSolution, lines_of_causes, text_of_pick}
+use Rattle.example_answers.specs.Explained.{ReportsNoSolution, lines_of_causes, text_of_conflict, text_of_pick}
 use Rattle.example_answers.specs.Faults.{IsFault, SaysFault}
+use Rattle.example_answers.specs.Names.{names_of}
 use Rattle.example_answers.specs.declared.outcome.Outcome.{Outcome}
 use Rattle.example_answers.specs.declared.outcome.Outcome.TheVariants.{Picked, NoSolution, GaveUp, Unreadable, Failed}
 use Rattle.example_answers.proofs.AnswerLemmas.{in_turn}
@@ -69,37 +71,48 @@ explains_solution p texts requested picked shown causes told best_up_to wishes t
           (third ∙ ap (λ n. text-2 ++ best_line best_up_to n) all);
     }
 
--- the text of a report
-pub reports_none : {N S : Type 0} (A : Type 0) (p : Provider N S) (texts : Texts N S)
-    (requested : List ConditionalRequirement) (reasons shown : List (Reason N S)) (report text-0 text-1 text-2 text-3 :
-    List ℕ) → IsRefuted p requested reasons → shown ≡ reasons
-    → IsReport A p.universe texts p.same_name p.same_solvable p.answers [] shown report
+-- the text of a report, and of a conflict
+pub reports_none : {N S : Type 0} (A : Type 0) (p : Provider N S) (texts : Texts N S) (names : List N)
+    (requested : List ConditionalRequirement) (reasons shown told : List (Reason N S))
+    (report text-0 text-1 text-2 text-3 text-4 : List ℕ)
+    → IsRefuted p requested reasons → IsForbidden p (named_in reasons) → shown ≡ reasons → told ≡ reasons
+    → IsTreeOrReport A p.universe texts p.same_name p.same_solvable p.answers names shown report
     → text-0 ≡ [] → text-1 ≡ text-0 ++ header → text-2 ≡ text-1 ++ codes "none\n" → text-3 ≡ text-2 ++ report
-    → ReportsNoSolution A p texts requested text-3
-reports_none A p texts requested reasons shown report text-0 text-1 text-2 text-3 is_refuted same is_report none first
-    second third =
+    → text-4 ≡ text-3 ++ text_of_conflict p.universe texts told → ReportsNoSolution A p texts names requested text-4
+reports_none A p texts names requested reasons shown told report text-0 text-1 text-2 text-3 text-4 is_refuted
+    is_forbidden same same_told is_report none first second third fourth =
+    let conflict = text_of_conflict p.universe texts in
     record {
       reasons = reasons;
       report = report;
       is_refuted = is_refuted;
       is_report =
-          subst (λ r. IsReport A p.universe texts p.same_name p.same_solvable p.answers [] r report) same is_report;
-      is = in_turn header (codes "none\n") report text-0 text-1 text-2 text-3 none first second third;
+          subst (λ r. IsTreeOrReport A p.universe texts p.same_name p.same_solvable p.answers names r report) same is_report;
+      is_forbidden = is_forbidden;
+      is = in_turn header (codes "none\n") (report ++ conflict reasons) text-0 text-1 text-2 text-4 none first second
+          (fourth ∙ ap (λ t. t ++ conflict told) third ∙ append_assoc text-2 report (conflict told)
+          ∙ ap (λ r. text-2 ++ (report ++ conflict r)) same_told);
     }
 
-module _ {N S : Type 0} (functions : SmallIndex → Provider N S) (texts : SmallIndex → Texts N S) where
+module _ {S : Type 0} (functions : SmallIndex → Provider ℕ S) (texts : SmallIndex → Texts ℕ S) where
   -- what a search answers to an index
-  pub index_explained : (index : SmallIndex) (outcome : Outcome) (text : List ℕ)
-      → ExplainsAnswer Global (functions index) (texts index) index.request.items outcome text
+  pub index_explained : (index : SmallIndex) (names : List ℕ) (outcome : Outcome) (text : List ℕ)
+      → names ≡ names_of index
+      → ExplainsAnswer Global (functions index) (texts index) names index.request.items outcome text
       → ExplainsIndex functions texts index outcome text
-  index_explained index Picked text says meant is =
+  index_explained index names Picked text same says meant is =
       record { meant = meant; index = index; says_index = refl; is_index = is; says = says }
-  index_explained index NoSolution text says meant is =
-      record { meant = meant; index = index; says_index = refl; is_index = is; says = says }
-  index_explained index GaveUp text says meant is =
+  index_explained index names NoSolution text same says meant is = record {
+    meant = meant;
+    index = index;
+    says_index = refl;
+    is_index = is;
+    says = subst (λ n. ReportsNoSolution Global (functions index) (texts index) n index.request.items text) same says;
+  }
+  index_explained index names GaveUp text same says meant is =
       inr (record { meant = meant; index = index; says_index = refl; is_index = is; says = says })
-  index_explained index Unreadable text says meant is = absurd says
-  index_explained index Failed text says meant is = absurd says
+  index_explained index names Unreadable text same says meant is = absurd says
+  index_explained index names Failed text same says meant is = absurd says
 
   -- what answers an index that was read answers what is said
   pub explained_of_read : (said : Result IndexText ℕ) (index : SmallIndex) (outcome : Outcome) (text : List ℕ)

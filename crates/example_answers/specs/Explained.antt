@@ -1,6 +1,6 @@
 -- The answer to an index, with explanations. N are the names, S the solvables, A the allocators.
 use Rattle.std.specs.Prelude.{◌≡◌, ℕ, List, [], ◌∷◌, ◌++◌, Option, None, Some, Result, Ok, codes, length}
-use Rattle.std.specs.Prelude.{slice_get}
+use Rattle.std.specs.Prelude.{if◌then◌else◌, nat_lt, slice_get}
 use Rattle.std.specs.declared.alloc.Global.{Global}
 use Rattle.index_text.specs.Index.{IndexText, index_of}
 use Rattle.index_text.specs.Indexes.{NumberedWords}
@@ -8,7 +8,8 @@ use Rattle.resolvo_pool.specs.Functions.{Provider}
 use Rattle.resolvo_pool.specs.Provider.{Universe}
 use Rattle.resolvo_pool.specs.Texts.{Texts}
 use Rattle.resolvo_pool.specs.Types.ConditionalRequirement.{ConditionalRequirement}
-use Rattle.reports.specs.Reports.{IsReport}
+use Rattle.corrections.specs.Proposals.{IsForbidden, named_in, text_of_proposals}
+use Rattle.report_trees.specs.Trees.{IsTreeOrReport}
 use Rattle.solutions.specs.Needed.{AreCaused}
 use Rattle.solutions.specs.Newest.{newest}
 use Rattle.solutions.specs.declared.needed.Cause.{Cause}
@@ -17,6 +18,7 @@ use Rattle.solutions.specs.declared.reason.Reason.{Reason}
 use Rattle.example_index.specs.Listed.{IsIndex}
 use Rattle.example_index.specs.declared.index.SmallIndex.{SmallIndex}
 use Rattle.example_answers.specs.Answers.{IsAnswer, IsAnswerOf, IsPicked, IsRefuted, OfIndex, best_line, header}
+use Rattle.example_answers.specs.Names.{names_of}
 use Rattle.example_answers.specs.Reasons.{text_of_need, text_of_solvable}
 use Rattle.example_answers.specs.declared.outcome.Outcome.{Outcome}
 use Rattle.example_answers.specs.declared.outcome.Outcome.TheVariants.{Picked, NoSolution, GaveUp, Unreadable, Failed}
@@ -60,31 +62,39 @@ pub record ExplainsSolution {N S : Type 0} (p : Provider N S) (texts : Texts N S
   pub is : text ≡ header ++ (lines_of_causes (text_of_pick p.universe texts requested picked) causes picked
       ++ best_line best_up_to (length (newest p requested)))
 
--- that there is no solution, and a report of the reasons
-pub record ReportsNoSolution {N S : Type 0} (A : Type 0) (p : Provider N S) (texts : Texts N S)
+-- which requirements of the request can't all stay, if the reasons name several
+abbrev pub text_of_conflict : {N S : Type 0} → Universe N S → Texts N S → List (Reason N S) → List ℕ
+text_of_conflict universe texts reasons =
+    if nat_lt 1 (length (named_in reasons)) then text_of_proposals universe texts (named_in reasons) else []
+
+-- that there is no solution, and a report of the reasons, in which one of the names may be meant; a request with all
+-- requirements that the reasons name has no solution either
+pub record ReportsNoSolution {N S : Type 0} (A : Type 0) (p : Provider N S) (texts : Texts N S) (names : List N)
     (requested : List ConditionalRequirement) (text : List ℕ) : Type 0 where
   pub reasons : List (Reason N S)
   pub report : List ℕ
   pub is_refuted : IsRefuted p requested reasons
-  pub is_report : IsReport A p.universe texts p.same_name p.same_solvable p.answers [] reasons report
-  pub is : text ≡ header ++ (codes "none\n" ++ report)
+  pub is_report : IsTreeOrReport A p.universe texts p.same_name p.same_solvable p.answers names reasons report
+  pub is_forbidden : IsForbidden p (named_in reasons)
+  pub is : text ≡ header ++ (codes "none\n" ++ (report ++ text_of_conflict p.universe texts reasons))
 
 -- what each outcome of a search says of the text
-abbrev pub ExplainsAnswer : {N S : Type 0} → Type 0 → Provider N S → Texts N S → List ConditionalRequirement →
+abbrev pub ExplainsAnswer : {N S : Type 0} → Type 0 → Provider N S → Texts N S → List N → List ConditionalRequirement →
     Outcome → List ℕ → Type 0
-ExplainsAnswer A p texts requested Picked text = ExplainsSolution p texts requested text
-ExplainsAnswer A p texts requested NoSolution text = ReportsNoSolution A p texts requested text
-ExplainsAnswer A p texts requested GaveUp text = IsAnswer p texts requested GaveUp text
-ExplainsAnswer A p texts requested Unreadable text = ⊥
-ExplainsAnswer A p texts requested Failed text = ⊥
+ExplainsAnswer A p texts names requested Picked text = ExplainsSolution p texts requested text
+ExplainsAnswer A p texts names requested NoSolution text = ReportsNoSolution A p texts names requested text
+ExplainsAnswer A p texts names requested GaveUp text = IsAnswer p texts requested GaveUp text
+ExplainsAnswer A p texts names requested Unreadable text = ⊥
+ExplainsAnswer A p texts names requested Failed text = ⊥
 
 -- what each outcome says of the text that answers what is said: an index, or the number of an unreadable line
-module _ {N S : Type 0} (functions : SmallIndex → Provider N S) (texts : SmallIndex → Texts N S) where
+module _ {S : Type 0} (functions : SmallIndex → Provider ℕ S) (texts : SmallIndex → Texts ℕ S) where
   abbrev pub ExplainsOf : Result IndexText ℕ → Outcome → List ℕ → Type 0
   ExplainsOf said Picked text =
       OfIndex (λ index. ExplainsSolution (functions index) (texts index) index.request.items text) said
   ExplainsOf said NoSolution text =
-      OfIndex (λ index. ReportsNoSolution Global (functions index) (texts index) index.request.items text) said
+      OfIndex (λ index. ReportsNoSolution Global (functions index) (texts index) (names_of index) index.request.items
+      text) said
   ExplainsOf said GaveUp text = IsAnswerOf functions texts said GaveUp text
   ExplainsOf said Unreadable text = IsAnswerOf functions texts said Unreadable text
   ExplainsOf said Failed text = ⊥

@@ -1,7 +1,9 @@
 pub mod Answers
 pub mod Explained
 pub mod Faults
+pub mod Names
 pub mod Printed
 pub mod Reasons
 pub mod Refusals
+pub mod Shown
 pub mod Status

@@ -7,6 +7,7 @@ ghost use Rattle.example_answers.specs.Explained.{ExplainsIndex, ExplainsLines};
 ghost use Rattle.example_answers.specs.Faults.{unreadable_in};
 
 use crate::index_answer::{AnswerText, answer_fault, write_notes};
+use crate::names::names_of;
 use crate::why::write_explained;
 use example_index::{IndexFault, SmallIndex};
 use index_text::Line;
@@ -45,8 +46,9 @@ fn explain_index(alloc: Global, index: &SmallIndex, steps: u64) -> Result<Answer
         answered.outcome (string_bytes answered.text)) }
     ensures unreadable { IfOk result (λ answered. answered.unreadable ≡ None) }
 {
+    let names = names_of(alloc, index)?;
     let mut text = String::new(alloc);
-    match write_explained(alloc, index, index.request(), steps, &mut text) {
+    match write_explained(index, &names, index.request(), steps, &mut text) {
         Ok(outcome) => Ok(AnswerText {
             outcome,
             text,

@@ -10,16 +10,19 @@
 //! called unreadable is (`specs/Answers`; `specs/Reasons` has a reason's line).
 //!
 //! [`answer_with_notes`] also notes version sets that no version is in. [`explain_with_notes`] does too, and its answer
-//! says why each version is picked, or reports why there is no solution (`specs/Explained`). [`answer_all`] prints the
-//! answers of all indexes of an input, in turn (`specs/Printed`). Crates that write answers in other forms use
-//! [`write_reason`] and its parts.
+//! says why each version is picked, or reports why there is no solution (`specs/Explained`); [`append_graph`] shows
+//! that as a graph (`specs/Shown`). [`answer_all`] prints the answers of all indexes of an input, in turn
+//! (`specs/Printed`). Crates that write answers in other forms use [`write_reason`] and its parts.
 #![tactic(auto)]
 
 mod answering;
+mod conflict;
 mod explained;
+mod graph;
 mod in_turn;
 mod index_answer;
 mod input_answers;
+mod names;
 mod outcome;
 mod print_fault;
 mod printer;
@@ -31,6 +34,7 @@ mod writing_bytes;
 
 pub use answering::Answering;
 pub use explained::explain_with_notes;
+pub use graph::append_graph;
 pub use in_turn::print_in_turn;
 pub use index_answer::{AnswerText, answer, answer_text, answer_with_notes};
 pub use input_answers::answer_all;

@@ -4,30 +4,33 @@ ghost use Rattle.resolvo_pool.specs.Texts.{IsAppended};
 ghost use Rattle.example_answers.specs.Explained.{ExplainsAnswer, lines_of_causes, text_of_cause, text_of_pick};
 ghost use Rattle.example_answers.specs.Explained.{text_of_requested, text_of_required};
 
+use crate::conflict::write_conflict;
 use crate::outcome::Outcome;
 use crate::reasons::{write_need, write_reasons, write_solvable};
 use crate::writing::write_best;
 use picking::{Answer, pick};
-use reports::write_report;
+use report_trees::write_tree;
 use resolvo_ids::StoreError;
 use resolvo_pool::{ConditionalRequirement, DependencyProvider, Interner, ProviderFunctions};
 use solutions::Cause;
 
 type Done = Result<(), StoreError>;
 
-/// Searches for what is requested, and writes the answer, with explanations, to a text that is empty so far.
+/// Searches for what is requested, and writes the answer, with explanations, to a text that is empty so far. One of
+/// these names may be meant where there is no package.
 pub(crate) fn write_explained<D: DependencyProvider>(
-    alloc: D::Alloc,
     provider: &D,
+    names: &[D::NameId],
     requested: &[ConditionalRequirement],
     steps: u64,
     text: &mut String<D::Alloc>,
 ) -> Result<Outcome, StoreError>
     requires { string_bytes text.old ≡ [] }
     ensures { IfOk result (λ outcome. ExplainsAnswer D.Alloc
-        (⟦<D as ProviderFunctions>⟧.functions provider.now) (D.texts provider.now) requested.now
+        (⟦<D as ProviderFunctions>⟧.functions provider.now) (D.texts provider.now) names.now requested.now
         outcome (string_bytes text.new)) }
 {
+    let alloc = *text.allocator();
     text.push_str("request:\n")?;
     match pick(alloc, provider, requested, steps)? {
         Answer::Picked(choice) => {
@@ -42,7 +45,8 @@ pub(crate) fn write_explained<D: DependencyProvider>(
         }
         Answer::Unsolvable(refutation) => {
             text.push_str("none\n")?;
-            write_report(provider, &refutation.reasons, text)?;
+            write_tree(provider, names, &refutation.reasons, text)?;
+            write_conflict(provider, &refutation.reasons, text)?;
             Ok(Outcome::NoSolution)
         }
         Answer::Uncertified(refutation) => {

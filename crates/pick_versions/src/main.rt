@@ -5,10 +5,13 @@
 //! picked; or `none` if there is no solution, and below it why, a line for each thing that is needed or limited there.
 //! If it gives up, or a line is unreadable, it says so, and goes on with the next index. A file that can't be read is
 //! named on standard error. The exit status is that of the worst index: [`Outcome`] has the numbers. With `--why` it
-//! also says why each version is picked, and reports why there is no solution.
+//! also says why each version is picked, and reports why there is no solution. Other flags ask for records of indexes
+//! without a solution, in files.
 #![tactic(auto)]
 
 mod options;
+mod output;
+mod records;
 mod remarks;
 
 ghost use Rattle.std.specs.Prelude.{◌≡◌};
@@ -16,8 +19,9 @@ ghost use Rattle.std.specs.Process.{exit_status};
 ghost use Rattle.example_answers.specs.Status.{status_of};
 
 use anyhow::{Result, anyhow};
-use example_answers::{Outcome, PrintFault, Printer, print_in_turn};
+use example_answers::{Outcome, PrintFault};
 use options::Options;
+use output::Output;
 use remarks::{Explaining, Remarking};
 use std::alloc::Global;
 use std::io::{Read, Write};
@@ -79,7 +83,7 @@ fn answer_inputs(
     options: &Options<'_>,
 ) -> Result<Outcome> {
     let mut worst = Outcome::Picked;
-    let mut printer = Printer::new(io::writer(rt));
+    let mut output = Output::new(alloc, options, io::writer(rt));
     if options.files.is_empty() {
         let mut bytes = Vec::new(alloc);
         if let Err(fault) = rt.reader().read_to_end(&mut bytes) {
@@ -89,7 +93,7 @@ fn answer_inputs(
             name: "standard input",
             bytes: &bytes,
         };
-        worst = answer_input(rt, alloc, input, options, &mut printer)?;
+        worst = answer_input(rt, alloc, input, options, &mut output)?;
     }
     for file in &options.files {
         match fs::read(rt, *file) {
@@ -98,7 +102,7 @@ fn answer_inputs(
                     name: *file,
                     bytes: &bytes,
                 };
-                worst = worst.worse(answer_input(rt, alloc, input, options, &mut printer)?);
+                worst = worst.worse(answer_input(rt, alloc, input, options, &mut output)?);
             }
             Err(fault) => {
                 eprintln!(rt; "{file:?}: {fault}")?;
@@ -106,6 +110,7 @@ fn answer_inputs(
             }
         }
     }
+    output.end(rt)?;
     Ok(worst)
 }
 
@@ -115,14 +120,14 @@ fn answer_input<W: Write>(
     alloc: Global,
     input: Input<'_, '_>,
     options: &Options<'_>,
-    printer: &mut Printer<W>,
+    output: &mut Output<'_, W>,
 ) -> Result<Outcome> {
+    let steps = options.steps;
+    let remarking = Remarking::new(rt, steps, input.name);
     let printed = if options.why {
-        let mut answering = Explaining(Remarking::new(rt, options.steps, input.name));
-        print_in_turn(alloc, input.bytes, &mut answering, printer)
+        output.print(alloc, input.bytes, Explaining(remarking), steps)
     } else {
-        let mut answering = Remarking::new(rt, options.steps, input.name);
-        print_in_turn(alloc, input.bytes, &mut answering, printer)
+        output.print(alloc, input.bytes, remarking, steps)
     };
     match printed {
         Ok(worst) => Ok(worst),

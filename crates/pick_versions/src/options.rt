@@ -2,7 +2,7 @@
 ghost use Rattle.std.specs.Prelude.{◌≡◌, ◌<◌, ◌^◌, ℕ, List, [], None, Some, IfOk, codes, map, option_map, unwrap_or};
 ghost use Rattle.std.specs.Prelude.{false, true};
 ghost use Rattle.std.specs.Str.Parse.{IsNumeral, digits_value, without_leading_plus};
-ghost use Rattle.clap.specs.Words.{found_of, matched_of, one_text, raw_values};
+ghost use Rattle.clap.specs.Words.{first_value, found_of, matched_of, one_text, raw_values};
 
 use clap::{Arg, ArgAction, ArgMatches, Command, Error};
 use std::alloc::{AllocError, Global};
@@ -17,6 +17,8 @@ pub struct Options<'a> {
     pub steps: u64,
     /// Whether answers have explanations.
     pub why: bool,
+    /// The file for graphs.
+    pub dot: Option<&'a str>,
     /// The files to read, in turn. Without one it is standard input.
     pub files: Vec<&'a str>,
 }
@@ -39,6 +41,9 @@ fn command<'a>(alloc: Global) -> Result<Command<'a>, AllocError> {
         .long("why")
         .action(ArgAction::SetTrue)
         .help("Says why each version is picked, and reports why there is no solution");
+    let dot = Arg::new(alloc, "dot").long("dot").value_name("OUTPUT").help(
+        "Writes a graph of why there is no solution to this file, for each such index",
+    );
     let files = Arg::new(alloc, "files")
         .value_name("FILE")
         .action(ArgAction::Append)
@@ -49,11 +54,12 @@ fn command<'a>(alloc: Global) -> Result<Command<'a>, AllocError> {
         .about("Picks versions of packages that fit together, or says why none do")
         .arg(steps)?
         .arg(why)?
+        .arg(dot)?
         .arg(files)
 }
 
 /// What is asked for, of a command line that is understood: the number that was found for the steps, or [`STEPS`] if
-/// none was, whether the flag was found, and the files that were found.
+/// none was, whether the flag was found, and the files that were found, to write and to read.
 fn options_of<'a>(alloc: Global, matches: &ArgMatches<'a>) -> Result<Options<'a>, AllocError>
     ensures default { one_text (found_of matches.now) (codes "steps") ≡ None
         → IfOk result (λ options. options.steps ≡ STEPS) }
@@ -64,6 +70,8 @@ fn options_of<'a>(alloc: Global, matches: &ArgMatches<'a>) -> Result<Options<'a>
         → IfOk result (λ options. options.why ≡ false) }
     ensures why { one_text (found_of matches.now) (codes "why") ≡ Some (codes "true")
         → IfOk result (λ options. options.why ≡ true) }
+    ensures dot { IfOk result (λ options. option_map (λ name. name.now) options.dot
+        ≡ first_value (found_of matches.now) (codes "dot")) }
     ensures files { IfOk result (λ options. map (λ name. name.now) options.files.items
         ≡ unwrap_or (option_map raw_values (matched_of (found_of matches.now) (codes "files"))) []) }
 {
@@ -75,6 +83,7 @@ fn options_of<'a>(alloc: Global, matches: &ArgMatches<'a>) -> Result<Options<'a>
     Ok(Options {
         steps,
         why: matches.get_flag("why"),
+        dot: matches.get_str("dot"),
         files,
     })
 }
@@ -97,22 +106,38 @@ mod tests {
     #[test]
     fn reads_steps_and_files(rt: HostRuntime) -> Result<(), Fail> {
         let alloc = rt.alloc();
-        for (line, steps, why, files) in [
-            ("pick_versions", STEPS, false, ""),
-            ("pick_versions --steps 7", 7, false, ""),
-            ("pick_versions --why a b", STEPS, true, "a b"),
-            ("pick_versions a --steps=7 b", 7, false, "a b"),
-            ("pick_versions -- --why", STEPS, false, "--why"),
+        for (line, steps, files) in [
+            ("pick_versions", STEPS, ""),
+            ("pick_versions --steps 7", 7, ""),
+            ("pick_versions --why a b", STEPS, "a b"),
+            ("pick_versions a --steps=7 b", 7, "a b"),
+            ("pick_versions -- --why", STEPS, "--why"),
         ] {
             let words = words(alloc, line)?;
             let options = read(alloc, words.as_slice())?;
             assert_eq!(rt; options.steps, steps, "at {line}");
-            assert_eq!(rt; options.why, why, "at {line}");
             assert_eq!(rt;
                 options.files.join(alloc, " ")?.as_str(),
                 files,
                 "at {line}"
             );
+        }
+        Ok(())
+    }
+
+    #[test]
+    fn reads_what_is_answered(rt: HostRuntime) -> Result<(), Fail> {
+        let alloc = rt.alloc();
+        for (line, why, dot) in [
+            ("pick_versions a", false, None),
+            ("pick_versions --why", true, None),
+            ("pick_versions --dot b a", false, Some("b")),
+            ("pick_versions --why --dot=b", true, Some("b")),
+        ] {
+            let words = words(alloc, line)?;
+            let options = read(alloc, words.as_slice())?;
+            assert_eq!(rt; options.why, why, "at {line}");
+            assert_eq!(rt; options.dot, dot, "at {line}");
         }
         Ok(())
     }
@@ -127,6 +152,8 @@ mod tests {
             ("pick_versions --steps", ErrorKind::InvalidValue),
             ("pick_versions --steps x", ErrorKind::ValueValidation),
             ("pick_versions --why=1", ErrorKind::TooManyValues),
+            ("pick_versions --dot", ErrorKind::InvalidValue),
+            ("pick_versions --dot a --dot b", ErrorKind::ArgumentConflict),
             (
                 "pick_versions --steps 1 --steps 2",
                 ErrorKind::ArgumentConflict,

@@ -109,54 +109,10 @@ mod tests {
         Ok(text)
     }
 
-    #[test]
-    fn says_where_and_what_was_expected(rt: HostRuntime) -> Result<(), Fail> {
+    /// Tests what is said of the fourth line of an index, for each of these lines.
+    fn test_lines(rt: &HostRuntime, cases: &[(&str, &str)]) -> Result<(), Fail> {
         let alloc = rt.alloc();
-        for (line, said) in [
-            ("app", "4: expected a version: a number below 2^32"),
-            (
-                "app 4294967296",
-                "5: expected a version: a number below 2^32",
-            ),
-            (
-                "app\t1",
-                "4: expected a printed character of ASCII or a blank",
-            ),
-            (
-                "app 1 excluded needs b 1..2\u{e9}",
-                "28: expected a printed character of ASCII or a blank",
-            ),
-            (
-                "app 1 wants b 1..2",
-                "7: expected `needs`, `limits`, `favored`, `locked`, `excluded` or `unknown`",
-            ),
-            (
-                "app 1 favored excluded",
-                "15: expected `needs`, `limits`, `favored` or `locked`",
-            ),
-            ("app 1 needs", "12: expected a package's name"),
-            (
-                "app 1 needs b 1..2 | needs c 1..2",
-                "22: expected a package's name",
-            ),
-            ("app 1 needs if b 1..2", "13: expected a package's name"),
-            ("app 1 needs b", "14: expected LOW..HIGH, as 1..3"),
-            ("  app 1  limits b  1.3 ", "20: expected LOW..HIGH, as 1..3"),
-            ("app 1 limits b 3..1", "16: LOW may not be above HIGH"),
-            (
-                "app 1 needs b 1..2 or c 1..2",
-                "20: expected `|`, `if`, `needs`, `limits`, `favored` or `locked`",
-            ),
-            (
-                "app 1 needs b 1..2 if c 1..2 | d 1..2",
-                "30: expected `and`, `or`, `needs`, `limits`, `favored` or `locked`",
-            ),
-            (
-                " web 1 favored",
-                "2: this version has a line already: line 2",
-            ),
-            ("web 01", "1: this version has a line already: line 2"),
-        ] {
+        for (line, said) in cases {
             let text = format!(in alloc; "{REQUEST}web 1\nweb 2\n{line}\nweb 1\n")?;
             let indexes = index_text::split(alloc, text.as_bytes())?;
             assert_eq!(rt; indexes.len(), 1);
@@ -169,6 +125,67 @@ mod tests {
             }
         }
         Ok(())
+    }
+
+    #[test]
+    fn says_where_and_what_was_expected(rt: HostRuntime) -> Result<(), Fail> {
+        test_lines(
+            &rt,
+            &[
+                ("app", "4: expected a version: a number below 2^32"),
+                (
+                    "app 4294967296",
+                    "5: expected a version: a number below 2^32",
+                ),
+                (
+                    "app\t1",
+                    "4: expected a printed character of ASCII or a blank",
+                ),
+                (
+                    "app 1 excluded needs b 1..2\u{e9}",
+                    "28: expected a printed character of ASCII or a blank",
+                ),
+                (
+                    "app 1 wants b 1..2",
+                    "7: expected `needs`, `limits`, `favored`, `locked`, `excluded` or `unknown`",
+                ),
+                (
+                    "app 1 favored excluded",
+                    "15: expected `needs`, `limits`, `favored` or `locked`",
+                ),
+                (
+                    " web 1 favored",
+                    "2: this version has a line already: line 2",
+                ),
+                ("web 01", "1: this version has a line already: line 2"),
+            ],
+        )
+    }
+
+    #[test]
+    fn says_what_a_need_lacks(rt: HostRuntime) -> Result<(), Fail> {
+        test_lines(
+            &rt,
+            &[
+                ("app 1 needs", "12: expected a package's name"),
+                (
+                    "app 1 needs b 1..2 | needs c 1..2",
+                    "22: expected a package's name",
+                ),
+                ("app 1 needs if b 1..2", "13: expected a package's name"),
+                ("app 1 needs b", "14: expected LOW..HIGH, as 1..3"),
+                ("  app 1  limits b  1.3 ", "20: expected LOW..HIGH, as 1..3"),
+                ("app 1 limits b 3..1", "16: LOW may not be above HIGH"),
+                (
+                    "app 1 needs b 1..2 or c 1..2",
+                    "20: expected `|`, `if`, `needs`, `limits`, `favored` or `locked`",
+                ),
+                (
+                    "app 1 needs b 1..2 if c 1..2 | d 1..2",
+                    "30: expected `and`, `or`, `needs`, `limits`, `favored` or `locked`",
+                ),
+            ],
+        )
     }
 
     #[test]

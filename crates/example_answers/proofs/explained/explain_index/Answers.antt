@@ -1,4 +1,4 @@
-use Rattle.std.proofs.Common.{[], Ok, string_bytes}
+use Rattle.std.proofs.Common.{◌∙◌, [], Ok, string_bytes}
 use Rattle.index_text.specs.Index.{IndexText}
 use Rattle.index_text.specs.Formats.{Numbers}
 use Rattle.example_index.specs.declared.fault.IndexFault.TheVariants.{Refused}
@@ -8,10 +8,11 @@ use Rattle.example_answers.proofs.explained.explain_index.Goals as goal
 
 pub returns-in-Ok-clause-answers : goal.returns-in-Ok-clause-answers
 returns-in-Ok-clause-answers c =
-    index_explained _ _ _ c.in-Ok.outcome _ (rw (← c.request.ensures) c.in-Ok.ensures)
+    index_explained _ _ _ _ c.in-Ok.outcome _ (c.deref.ensures.value ∙ c.in_ok-names.ensures)
+    (rw (← c.request.ensures) c.in-Ok.ensures)
 
-pub returns-in-Err-clause-answers : goal.returns-in-Err-clause-answers
-returns-in-Err-clause-answers c =
+pub returns-clause-answers : goal.returns-clause-answers
+returns-clause-answers c =
     IfOk-weaker c.answer_fault.result _ _
     (λ answered says meant is. explained_of_fault _ _ _ (Refused c.in-Err.refused) answered.outcome
     (string_bytes answered.text) tt says)
@@ -21,6 +22,6 @@ returns-in-Err-clause-answers c =
 nothing : IndexText
 nothing = record { format = Numbers; request = []; versions = [] }
 
-pub returns-in-Err-clause-unreadable : goal.returns-in-Err-clause-unreadable
-returns-in-Err-clause-unreadable c =
+pub returns-clause-unreadable : goal.returns-clause-unreadable
+returns-clause-unreadable c =
     IfOk-weaker c.answer_fault.result _ _ (λ answered of. of (Ok nothing) tt) c.answer_fault.ensures.unreadable

@@ -1,5 +1,6 @@
 use Rattle.std.proofs.Common.{◌∙◌}
 use Rattle.resolvo_pool.specs.Functions.{Provider, gathered}
+use Rattle.corrections.proofs.ProposalLemmas.{forbidden_by}
 use Rattle.example_answers.specs.Answers.{NotShown}
 use Rattle.example_answers.proofs.AnswerLemmas.{as_many_ranks, in_turn, picked_is, refuted_is}
 use Rattle.example_answers.proofs.ExplainLemmas.{caused_are, explains_solution, reports_none}
@@ -24,16 +25,20 @@ returns-in_ok-write_best-in-Picked g c =
     c.deref-in-Picked.ensures.value c.requires
     c.in_ok-push_str.ensures.bytes c.in_ok-write_lines-in-Picked.ensures c.in_ok-write_best-in-Picked.ensures
 
-pub returns-in_ok-write_report-in-Unsolvable : goal.returns-in_ok-write_report-in-Unsolvable
-returns-in_ok-write_report-in-Unsolvable g c =
+pub returns-in_ok-write_conflict-in-Unsolvable : goal.returns-in_ok-write_conflict-in-Unsolvable
+returns-in_ok-write_conflict-in-Unsolvable g c =
     let p = provided g c.args.provider.now in
     let requested = c.args.requested.now in
     let promised = c.in_ok-choice.ensures in
-    let report = c.in_ok-write_report-in-Unsolvable.ensures in
-    reports_none _ p _ requested _ _ report.0 _ _ _ _
-    (refuted_is p requested _ _ c.in-Unsolvable.is promised.none promised.reasons_so promised.reasons_enough)
-    c.deref-in-Unsolvable.ensures.value report.2 c.requires c.in_ok-push_str.ensures.bytes
-    c.in_ok-push_str-in-Unsolvable.ensures.bytes report.1
+    let refuted =
+    refuted_is p requested _ _ c.in-Unsolvable.is promised.none promised.reasons_so promised.reasons_enough in
+    let report = c.in_ok-write_tree-in-Unsolvable.ensures in
+    reports_none _ p _ c.args.names.now requested _ _ _ report.0 _ _ _ _ _ refuted
+    (forbidden_by p g.met.D.NameId.Eq.laws.refl g.met.D.SolvableId.Eq.laws.refl g.met.D.SolvableId.SameValue.same _
+    refuted.are_enough requested refuted.are_so)
+    c.deref-in-Unsolvable.ensures.value c.deref-in-Unsolvable-2.ensures.value report.2 c.requires
+    c.in_ok-push_str.ensures.bytes c.in_ok-push_str-in-Unsolvable.ensures.bytes report.1
+    c.in_ok-write_conflict-in-Unsolvable.ensures
 
 pub returns-in_ok-write_reasons-in-Uncertified : goal.returns-in_ok-write_reasons-in-Uncertified
 returns-in_ok-write_reasons-in-Uncertified g c = (
