@@ -1,7 +1,4 @@
 //! What the program writes: answers on standard output, and records to files.
-ghost use Rattle.index_text.specs.Indexes.{indexes_of};
-ghost use Rattle.example_answers.specs.Printed.{Prints};
-
 use crate::options::Options;
 use crate::records::{Recording, Records};
 use anyhow::Result;

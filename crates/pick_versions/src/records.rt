@@ -1,5 +1,5 @@
 //! What is recorded of indexes without a solution, for files.
-ghost use Rattle.std.specs.Prelude.{◌≡◌, [], IfOk, MatchOption, OnOk, map, option_map, string_bytes};
+ghost use Rattle.std.specs.Prelude.{◌≡◌, [], IfOk, OnOk, map, string_bytes};
 ghost use Rattle.index_text.specs.PlainLines.{plain_line};
 ghost use Rattle.example_answers.specs.Shown.{ShowsLines};
 ghost use Rattle.pick_versions.specs.Records.{IsAdded, IsRecorded};
@@ -90,6 +90,8 @@ impl<A: Answering> Answering for Recording<'_, '_, A> {
     ghost answers = { A.answers };
 
     fn answer(&mut self, alloc: Global, lines: &[Line<'_>]) -> Result<AnswerText, AllocError>
+        ensures answers { IfOk result (λ answered.
+            A.answers (map plain_line lines.now) answered.outcome (string_bytes answered.text)) }
         ensures graphs { IfOk result (λ answered. IsRecorded answered.outcome self.old.records.now.graphs
             self.new.records.now.graphs (ShowsLines ⟦<SmallIndex as ProviderFunctions>⟧.functions
             ⟦<SmallIndex as Interner>⟧.texts (map plain_line lines.now))) }
