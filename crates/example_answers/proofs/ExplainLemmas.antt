@@ -87,7 +87,8 @@ reports_none A p texts names requested reasons shown told report text-0 text-1 t
       report = report;
       is_refuted = is_refuted;
       is_report =
-          subst (λ r. IsTreeOrReport A p.universe texts p.same_name p.same_solvable p.answers names r report) same is_report;
+          subst (λ r. IsTreeOrReport A p.universe texts p.same_name p.same_solvable p.answers names r report) same
+          is_report;
       is_forbidden = is_forbidden;
       is = in_turn header (codes "none\n") (report ++ conflict reasons) text-0 text-1 text-2 text-4 none first second
           (fourth ∙ ap (λ t. t ++ conflict told) third ∙ append_assoc text-2 report (conflict told)
