@@ -96,6 +96,7 @@ mod tests {
     use super::fault;
     use example_answers::answer_with_notes;
     use std::alloc::{AllocError, Global};
+    use std::process::Abort;
     use std::test::Fail;
 
     const REQUEST: &str = "request needs app 1..9\n";
@@ -110,7 +111,7 @@ mod tests {
     }
 
     /// Tests what is said of the fourth line of an index, for each of these lines.
-    fn test_lines(rt: &HostRuntime, cases: &[(&str, &str)]) -> Result<(), Fail> {
+    fn test_lines(rt: &(impl Abort + AllocGlobal), cases: &[(&str, &str)]) -> Result<(), Fail> {
         let alloc = rt.alloc();
         for (line, said) in cases {
             let text = format!(in alloc; "{REQUEST}web 1\nweb 2\n{line}\nweb 1\n")?;
