@@ -6,15 +6,19 @@ pub mod CountedLemmas
 pub mod CountedScan
 pub mod ForbiddingLaws
 pub mod HelperLemmas
+pub mod InternedLaws
 pub mod InvariantLemmas
 pub mod KeepingLaws
 pub mod KnownLemmas
+pub mod LearningLemmas
 pub mod ListLemmas
 pub mod LiteralLaws
+pub mod LoadedInvariants
 pub mod LoadingLemmas
 pub mod MarkedLaws
 pub mod ModelLaws
 pub mod PartLaws
+pub mod PartOutcomes
 pub mod RunLemmas
 pub mod SaturatedLaws
 pub mod SaturatingLemmas
@@ -22,6 +26,7 @@ pub mod SettledLaws
 pub mod SoundLaws
 pub mod SoundSteps
 pub mod StoredLaws
+pub mod StoredStores
 pub mod SyncedLemmas
 pub mod TrackedLaws
 pub mod TrackingLaws

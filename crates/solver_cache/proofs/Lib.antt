@@ -9,3 +9,4 @@ pub mod ListedLemmas
 pub mod RefusalLemmas
 pub mod SortingLemmas
 pub mod UnansweredLemmas
+pub mod UnionLemmas
