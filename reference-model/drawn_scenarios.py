@@ -21,8 +21,8 @@ class DrawnScenario(Scenario):
         self.drawn = drawn
         self.is_faulty = drawn.random() < 0.1
         self.has_architectures = drawn.random() < 0.5
-        stanzas = []
-        for name in NAMES[: drawn.randint(2, 6)]:
+        stanzas, count = [], drawn.randint(1, 6) if drawn.random() < 0.98 else 0
+        for name in NAMES[:count]:
             where = ["amd64"] + ["i386"] * (self.has_architectures and drawn.random() < 0.4)
             for architecture in where:
                 stanzas += self.versions_of(name, architecture)
@@ -94,7 +94,7 @@ class DrawnScenario(Scenario):
         request = {"Request": "EDSP 0.5", "Architecture": "amd64"}
         for field, chance in (("Install", 0.7), ("Remove", 0.3)):
             if drawn.random() < chance:
-                some = drawn.sample(names, drawn.choice((1, 1, 2)))
+                some = drawn.sample(names, min(len(names), drawn.choice((1, 1, 2))))
                 words = [name + self.some(0.9, (f":{where}",)) for name, where in some]
                 request[field] = " ".join([*words, *["g:amd64"] * (drawn.random() < 0.02)])
         for field in REQUESTS:

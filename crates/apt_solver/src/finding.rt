@@ -43,7 +43,9 @@ fn outcome(
             Ok(Found::Nothing(message))
         }
         Answer::StepsUsed => nothing(alloc, "the search took too long"),
-        _ => nothing(alloc, "a check didn't confirm what the search found"),
+        Answer::Uncertified(_) | Answer::NotASolution => {
+            nothing(alloc, "a check didn't confirm what the search found")
+        }
     }
 }
 

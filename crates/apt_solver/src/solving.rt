@@ -65,7 +65,7 @@ fn search(
     let alloc = *wishes.allocator();
     let mut wishes = wishes;
     let mut recommending = recommending;
-    for _ in 0..archive.packages().len() {
+    for _ in 0..=archive.packages().len() {
         let request = Request {
             requirements,
             wishes: &wishes,

@@ -129,6 +129,14 @@ fn answers(rt: HostRuntime) -> Result<(), Fail> {
     Ok(())
 }
 
+/// Nothing is to be done if there are no packages.
+#[test]
+fn answers_no_packages(rt: HostRuntime) -> Result<(), Fail> {
+    let said = answer(rt.alloc(), b"Request: EDSP 0.5\nArchitecture: amd64\n\n")?;
+    assert!(rt; said.is_empty());
+    Ok(())
+}
+
 /// A text that is no whole scenario is answered by an error: one without stanzas, one that was cut, one with a stanza
 /// that is no package, one without a request, and bytes that are no text.
 #[test]
