@@ -9,7 +9,7 @@ ENTRIES = ("needs", "limits", "favored", "locked")
 REASONED = ("excluded", "unknown")
 # The words that are no package's name: in a union, in a condition, and behind `limits`.
 NO_NAMES = {"union": {*ENTRIES, "|", "if"}, "condition": {*ENTRIES, "and", "or", "if"}, "limits": {*ENTRIES}}
-MOST_WORDS = 1 << 21  # of the entries of a line
+MOST_WORDS = 1 << 21  # of a line
 # Behind what some words stand alone.
 BEHIND = {"semver": "`request`", **dict.fromkeys(REASONED, "a version")}
 
@@ -60,10 +60,10 @@ class Words:
             raise Unreadable(str(why), self.column() + offset) from None
 
     def end_in(self, most):
-        """Sees to it that the line ends behind so many more words, if not before."""
-        if len(self.placed) > self.place + most:
-            self.place += most
-            raise self.fault(f"the end of the line, in which at most {most} words are entries")
+        """Sees to it that the line ends behind its first so many words, if not before."""
+        if len(self.placed) > most:
+            self.place = most
+            raise self.fault(f"the end of the line, which has at most {most} words")
 
     def fault(self, expected):
         """That something else is expected in place of the next word."""
@@ -93,9 +93,12 @@ class Listing:
 
     def read(self, words):
         """Reads a line."""
-        if words.skips("request"):
+        is_request = words.skips("request")
+        if is_request:
             self.numbers[None] = words.number
             self.kind = SemVer if words.skips("semver") else Numbers
+        words.end_in(MOST_WORDS)
+        if is_request:
             self.wanted += self.entries(words, "needs")["needs"]
         elif self.faults or self.numbers:
             self.version(words)
@@ -124,7 +127,6 @@ class Listing:
     def entries(self, words, *kinds):
         """The entries up to the end of the line, by their kinds."""
         found = {kind: [] for kind in ENTRIES}
-        words.end_in(MOST_WORDS)
         while words.next() is not None:
             if words.next() not in kinds:
                 raise words.fault(f"{', '.join(f'`{kind}`' for kind in kinds)}, or the end of the line")

@@ -77,7 +77,7 @@ def both(outcome):
 UNREADABLE, NOTHING, ANSWER = both("line 1"), both("nothing"), both("answer")
 UNREAD, UNWRITTEN = both("unread"), both("unwritten")
 INDEX, SCRIPT = ("index",), ("script",)
-MOST_SETS = (1 << 21) // 3  # of three words each, in the line of an index
+MOST_SETS = (1 << 21) // 3  # of three words each, in a line of an index
 PRINTED = bytes(range(33, 127))
 
 INPUTS = [
@@ -102,6 +102,10 @@ INPUTS = [
           formats=INDEX),
     Input("a request of too many needs", {"index": "line 1"},
           lambda format, size: many(b"needs a 1..2 ", b"request ")(format, max(size, 13 * (MOST_SETS + 1))),
+          formats=INDEX),
+    Input("a version of too many needs", {"index": "line 2"},
+          lambda format, size: many(b"needs a 1.0.0..2.0.0 ", b"request semver needs a 1.0.0..2.0.0\na 1.0.0 ")(
+              format, max(size, 21 * (MOST_SETS + 1))),
           formats=INDEX),
     Input("a request and blanks", {"index": "no version"}, many(b" ", b"request"), formats=INDEX),
     Input("a request of no needs", UNREADABLE, many(b"x ", b"request "), formats=INDEX),

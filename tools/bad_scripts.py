@@ -66,6 +66,7 @@ tools/api {}
 tools/bad-input {}
 tools/defined-twice {}
 tools/helps {}
+tools/lengths {}
 mutants/applies {}
 mutants/by-promise {}
 mutants/changed {}

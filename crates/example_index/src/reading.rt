@@ -17,7 +17,7 @@ use crate::index::SmallIndex;
 use crate::interning::intern_name;
 use crate::packages::{Entries, Package};
 use crate::states::{intern_entries, intern_state};
-use index_text::{Line, Reader, Version, overlong_request};
+use index_text::{Line, Reader, Version};
 use indexmap::IndexSet;
 use resolvo_ids::{DenseIndex, NameId, SolvableId, StoreError};
 use std::alloc::Global;
@@ -27,16 +27,6 @@ type Known = IndexSet<(NameId, u32)>;
 
 /// Reads the index of these lines: the request, and then a version in each line.
 pub fn read(alloc: Global, lines: &[Line<'_>]) -> Result<SmallIndex, IndexFault>
-    ensures { AreRead (λ said index. IsIndex index said) (index_of (map plain_line lines.now)) result }
-{
-    match overlong_request(lines) {
-        Some(number) => Err(IndexFault::Unreadable(number)),
-        None => read_whole(alloc, lines),
-    }
-}
-
-/// Reads the index of these lines, however many words its request has.
-fn read_whole(alloc: Global, lines: &[Line<'_>]) -> Result<SmallIndex, IndexFault>
     ensures { AreRead (λ said index. IsIndex index said) (index_of (map plain_line lines.now)) result }
 {
     let mut reader = Reader::new(alloc, lines)?;

@@ -1,7 +1,6 @@
 pub mod Cuts
 pub mod EachLemmas
 pub mod EndLemmas
-pub mod EntryLemmas
 pub mod LineLemmas
 pub mod OrderLaws
 pub mod OrderLemmas

@@ -19,7 +19,7 @@ use Rattle.std.proofs.lemmas.Option.{slice_get-get_or}
 use Rattle.std.proofs.lemmas.Map.Keys.{Less-from_sorted, sorted_head, sorted_tail}
 use Rattle.index_text.proofs.OrderLemmas.{version_total}
 use Rattle.index_text.proofs.SemverTexts.{text_of_semver}
-use Rattle.index_text.specs.Indexes.{NumberedWords}
+use Rattle.index_text.specs.Indexes.{NumberedWords, are_too_many}
 use Rattle.index_text.specs.Formats.{Numbers, Semver, version_cmp, place_of, number_in, semver_of}
 use Rattle.index_text.specs.Formats.{version_text, text_of_parts}
 use Rattle.index_text.specs.Written.{format_of, says_semver, texts_in, written, written_in, written_on, with_versions}
@@ -213,15 +213,17 @@ numbers_rise known sorted a b i j at-a at-b = (
 pub written_has_number : (lines : List NumberedWords) (line : NumberedWords) (words : List (List ℕ))
     (word text : List ℕ) (version : Parts)
     → says_semver lines ≡ true → length (with_versions [] (written lines)) < 2 ^ 32
-    → Contains lines line → line.words ≡ Some words → Contains words word → Contains (texts_in word) text
+    → Contains lines line → line.words ≡ Some words → are_too_many words ≡ false
+    → Contains words word → Contains (texts_in word) text
     → semver_of text ≡ Some version
     → (number : ℕ) × (number_in (format_of lines) text ≡ Some number)
-written_has_number lines line words word text version semver few in-lines says in-words in-word is =
+written_has_number lines line words word text version semver few in-lines says short in-words in-word is =
     let known = with_versions [] (written lines) in
     let of-word = mapped semver_of (texts_in word) text version in-word.0 in-word.1 in-word.2 is in
     let of-words = joined_has written_in words word version in-words.0 in-words.1 in-words.2 of-word in
     let of-line : Contains (written_on line.words) version =
-    subst (λ said. Contains (written_on said) version) (sym says) of-words in
+    subst (λ versions. Contains versions version)
+    (sym (ap written_on says ∙ ap (λ b. if b then [] else flat_map written_in words) short)) of-words in
     let of-lines = joined_has (λ (l : NumberedWords). written_on l.words) lines line version in-lines.0 in-lines.1
     in-lines.2 of-line in
     let there = all_there version_total [] (written lines) version of-lines.0 of-lines.1 of-lines.2 in

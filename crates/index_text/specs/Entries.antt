@@ -1,5 +1,5 @@
 -- What a line says of its version.
-use Rattle.std.specs.Prelude.{ℕ, ◌^◌, Bool, false, ◌||◌, nat_lt, List, [], ◌∷◌, ◌++◌, length, Option, None, Some}
+use Rattle.std.specs.Prelude.{ℕ, Bool, false, ◌||◌, List, [], ◌∷◌, ◌++◌, Option, None, Some}
 use Rattle.std.specs.Prelude.{option_map, option_and_then, if◌then◌else◌, codes}
 use Rattle.std.specs.Borrow.{Bor}
 use Rattle.std.specs.List.{slice_split}
@@ -71,15 +71,8 @@ entry_of format (keyword ∷ words) =
     else if bytes_eq keyword (codes "locked") then alone Locked words
     else None
 
-abbrev pub all_entries_of : VersionFormat → List (List ℕ) → Option (List EntryText)
-all_entries_of format words = each_of (entry_of format) (cut is_entry words)
-
--- a line has at most 2^21 words of entries
-abbrev pub are_too_many : List (List ℕ) → Bool
-are_too_many words = nat_lt (2 ^ 21) (length words)
-
 abbrev pub entries_of : VersionFormat → List (List ℕ) → Option (List EntryText)
-entries_of format words = if are_too_many words then None else all_entries_of format words
+entries_of format words = each_of (entry_of format) (cut is_entry words)
 
 -- the words of the entries from here on, if there are some
 abbrev pub entries_behind : Option (Bor (List (Bor (List ℕ)))) → List (List (List ℕ))

@@ -4,9 +4,9 @@ use Rattle.std.specs.Prelude.{IfSome, option_and_then, if◌then◌else◌, code
 use Rattle.std.specs.Option.{ok_or}
 use Rattle.std.specs.Str.{bytes_eq}
 use Rattle.index_text.specs.Diagnoses.{earlier_line, is_first, line_in}
-use Rattle.index_text.specs.Entries.{are_too_many, is_entry}
+use Rattle.index_text.specs.Entries.{is_entry}
 use Rattle.index_text.specs.Formats.{VersionFormat, Numbers, Semver, number_in, ends_of}
-use Rattle.index_text.specs.Indexes.{NumberedWords}
+use Rattle.index_text.specs.Indexes.{NumberedWords, are_too_many}
 use Rattle.index_text.specs.Lines.{VersionText, behind_format, version_said}
 use Rattle.index_text.specs.Written.{format_of}
 use Rattle.index_text.specs.declared.diagnosis.Diagnosis.{Diagnosis}
@@ -120,21 +120,16 @@ expected_from format kind place [] = expected_at kind place
 expected_from format kind place (word ∷ words) =
     or_expected (λ next. expected_from format kind next words) (place_behind format kind place word)
 
--- of entries: the line's end behind 2^21 words, if there are more
-abbrev pub expected_of_entries : VersionFormat → LineKind → List (List ℕ) → Expected
-expected_of_entries format kind words =
-    if are_too_many words then Is.LineEnd else expected_from format kind At.First words
-
 -- of a request: `request` itself, or what is expected behind it
 abbrev pub expected_of_request : VersionFormat → List (List ℕ) → Expected
 expected_of_request format [] = Is.RequestFirst
 expected_of_request format (keyword ∷ words) =
-    if bytes_eq keyword (codes "request") then expected_of_entries format Request (behind_format format words)
+    if bytes_eq keyword (codes "request") then expected_from format Request At.First (behind_format format words)
     else Is.RequestFirst
 
 abbrev pub behind_version : VersionFormat → List (List ℕ) → Option ℕ → Expected
 behind_version format words None = Is.Version
-behind_version format words (Some number) = expected_of_entries format Version words
+behind_version format words (Some number) = expected_from format Version At.First words
 
 -- of a version: its name, its version, or what is expected behind them
 abbrev pub expected_of_version : VersionFormat → List (List ℕ) → Expected
@@ -142,11 +137,14 @@ expected_of_version format [] = Is.Name
 expected_of_version format (name ∷ []) = Is.Version
 expected_of_version format (name ∷ version ∷ words) = behind_version format words (number_in format version)
 
--- of a line's words: a printed byte, if it has none since a byte isn't printed
+abbrev pub expected_of : VersionFormat → LineKind → List (List ℕ) → Expected
+expected_of format Request words = expected_of_request format words
+expected_of format Version words = expected_of_version format words
+
+-- of a line's words: a printed byte, if it has none since a byte isn't printed; its end, if it has too many
 abbrev pub expected_in : VersionFormat → LineKind → Option (List (List ℕ)) → Expected
 expected_in format kind None = Is.PrintedByte
-expected_in format Request (Some words) = expected_of_request format words
-expected_in format Version (Some words) = expected_of_version format words
+expected_in format kind (Some words) = if are_too_many words then Is.LineEnd else expected_of format kind words
 
 -- in the format's words: in an index of SemVer versions, a SemVer version
 abbrev pub in_semver : Expected → Expected

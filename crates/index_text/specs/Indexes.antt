@@ -1,5 +1,5 @@
 -- The indexes of a text, and the lines of each.
-use Rattle.std.specs.Prelude.{ℕ, ◌+◌, Bool, true, false, List, [], ◌∷◌, Option, None, Some}
+use Rattle.std.specs.Prelude.{ℕ, ◌+◌, ◌^◌, Bool, true, false, nat_lt, List, [], ◌∷◌, length, Option, None, Some}
 use Rattle.std.specs.Prelude.{if◌then◌else◌, codes}
 use Rattle.std.specs.List.{list_all}
 use Rattle.std.specs.Str.{bytes_eq}
@@ -15,6 +15,10 @@ pub record NumberedWords : Type 0 where
 
 abbrev pub words_in : List ℕ → Option (List (List ℕ))
 words_in line = if list_all is_printed line then Some (words line) else None
+
+-- a request or a version has at most 2^21 words
+abbrev pub are_too_many : List (List ℕ) → Bool
+are_too_many words = nat_lt (2 ^ 21) (length words)
 
 -- a line without words, or a comment
 abbrev pub is_skipped : Option (List (List ℕ)) → Bool

@@ -4,7 +4,6 @@ pub mod Expected
 pub mod Index
 pub mod Indexes
 pub mod Lines
-pub mod Overlong
 pub mod Formats
 pub mod Plain
 pub mod PlainLines

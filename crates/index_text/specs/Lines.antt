@@ -5,6 +5,7 @@ use Rattle.std.specs.List.{list_all, join_by}
 use Rattle.std.specs.Str.{bytes_eq}
 use Rattle.index_text.specs.Entries.{EntryText, Needs, entries_of}
 use Rattle.index_text.specs.Formats.{VersionFormat, Numbers, Semver, number_in}
+use Rattle.index_text.specs.Indexes.{are_too_many}
 
 -- what is said of a version: what it needs and limits, or why it may not be picked, or why nobody knows what it needs
 pub data VersionIs : Type 0 where
@@ -37,10 +38,14 @@ version_named format name (version ∷ words) =
 version_named format name [] = None
 
 -- NAME VERSION, and what is said of it; no name is `request`
-abbrev pub version_said : VersionFormat → List (List ℕ) → Option VersionText
-version_said format (name ∷ words) =
+abbrev pub version_in : VersionFormat → List (List ℕ) → Option VersionText
+version_in format (name ∷ words) =
     if bytes_eq name (codes "request") then None else version_named format name words
-version_said format [] = None
+version_in format [] = None
+
+-- the same, of a line that hasn't too many words
+abbrev pub version_said : VersionFormat → List (List ℕ) → Option VersionText
+version_said format words = if are_too_many words then None else version_in format words
 
 abbrev pub is_need : EntryText → Bool
 is_need (Needs need) = true
@@ -56,9 +61,13 @@ behind_format Numbers words = words
 behind_format (Semver known) words = drop 1 words
 
 -- request, and what is needed
-abbrev pub request_said : VersionFormat → List (List ℕ) → Option (List EntryText)
-request_said format [] = None
-request_said format (keyword ∷ words) =
+abbrev pub request_in : VersionFormat → List (List ℕ) → Option (List EntryText)
+request_in format [] = None
+request_in format (keyword ∷ words) =
     if bytes_eq keyword (codes "request")
     then option_and_then all_needs (entries_of format (behind_format format words))
     else None
+
+-- the same, of a line that hasn't too many words
+abbrev pub request_said : VersionFormat → List (List ℕ) → Option (List EntryText)
+request_said format words = if are_too_many words then None else request_in format words

@@ -3,7 +3,7 @@ use Rattle.std.specs.Prelude.{ℕ, ◌&&◌, Bool, false, List, [], ◌∷◌, O
 use Rattle.std.specs.BTreeSet.{insert_key}
 use Rattle.std.specs.List.{filter_map, flat_map, fold}
 use Rattle.std.specs.Str.{bytes_eq}
-use Rattle.index_text.specs.Indexes.{NumberedWords}
+use Rattle.index_text.specs.Indexes.{NumberedWords, are_too_many}
 use Rattle.index_text.specs.Formats.{VersionFormat, Numbers, Semver, version_cmp, semver_of, ends_of}
 use Rattle.semver.specs.Parse.{Parts}
 
@@ -23,10 +23,10 @@ versions_in texts = filter_map semver_of texts
 abbrev pub written_in : List ℕ → List Parts
 written_in word = versions_in (texts_in word)
 
--- the SemVer versions of a line's words
+-- the SemVer versions of a line's words; none if there are too many, as no line may have them
 abbrev pub written_on : Option (List (List ℕ)) → List Parts
 written_on None = []
-written_on (Some words) = flat_map written_in words
+written_on (Some words) = if are_too_many words then [] else flat_map written_in words
 
 -- the SemVer versions of the lines of an index
 abbrev pub written : List NumberedWords → List Parts

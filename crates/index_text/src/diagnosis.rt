@@ -12,7 +12,6 @@ ghost use Rattle.index_text.specs.PlainFormats.{plain_format};
 use crate::earlier::earlier_line;
 use crate::expected::Expected;
 use crate::line::Line;
-use crate::overlong::overlong_column;
 use crate::place::LineKind;
 use crate::raw::raw_line;
 use crate::reader::Reader;
@@ -31,42 +30,6 @@ pub struct Diagnosis {
 
 /// Why the line of this number is unreadable, among the lines of its index; none if it is read, or isn't there.
 pub fn diagnose(
-    alloc: Global,
-    lines: &[Line<'_>],
-    number: u64,
-) -> Result<Option<Diagnosis>, AllocError>
-    ensures none { IfOk result (λ fault. not (is_some fault) ≡ is_readable number (map plain_line lines.now)) }
-    ensures place { IfOk result (λ fault. IfSome fault (IsPlaceIn (line_of number lines.now))) }
-    ensures told { IfOk result (λ fault. IfSome fault (IsTold number (map plain_line lines.now))) }
-{
-    match overlong_fault(lines, number) {
-        Some(fault) => Ok(Some(fault)),
-        None => line_fault(alloc, lines, number),
-    }
-}
-
-/// Why the first line is unreadable, if it has this number and is a request that has too many words. Its versions need
-/// not be read for that.
-fn overlong_fault(lines: &[Line<'_>], number: u64) -> Option<Diagnosis>
-    ensures none { IfSome result (λ fault. is_readable number (map plain_line lines.now) ≡ false) }
-    ensures place { IfSome result (IsPlaceIn (line_of number lines.now)) }
-    ensures told { IfSome result (IsTold number (map plain_line lines.now)) }
-{
-    let [first, ..] = lines else {
-        return None;
-    };
-    if first.number != number {
-        return None;
-    }
-    let Some(column) = overlong_column(first) else {
-        return None;
-    };
-    let expected = Expected::LineEnd;
-    Some(Diagnosis { column, expected })
-}
-
-/// Why the line of this number is unreadable, however many words it has.
-fn line_fault(
     alloc: Global,
     lines: &[Line<'_>],
     number: u64,

@@ -2,7 +2,7 @@
 ghost use Rattle.std.specs.Prelude.{◌≡◌, ◌<◌, ◌∷◌, IfOk, IfSome, option_map, length, codes};
 ghost use Rattle.std.specs.Str.{bytes_eq};
 ghost use Rattle.index_text.specs.Entries.{need_of, condition_in_parts, entry_of, alone, entries_of, is_entry, cut};
-ghost use Rattle.index_text.specs.Entries.{all_entries_of, entries_behind};
+ghost use Rattle.index_text.specs.Entries.{entries_behind};
 ghost use Rattle.index_text.specs.Plain.{plain_need, plain_lists, plain_entry, plain_entries};
 ghost use Rattle.index_text.specs.PlainFormats.{plain_format};
 ghost use Rattle.index_text.specs.Sets.{texts, parts_behind};
@@ -12,9 +12,6 @@ use crate::set::{Set, Sets, alternatives, read_set, read_sets};
 use crate::words::first_part;
 use script_text::is_word;
 use std::alloc::{AllocError, Global};
-
-/// How many words of entries a line has at most.
-pub(crate) const MOST_WORDS: usize = 1 << 21;
 
 /// What is needed.
 #[derive(Drop)]
@@ -121,8 +118,7 @@ fn alone<'t>(entry: Entry<'t>, words: &[&str]) -> Option<Entry<'t>>
     if words.is_empty() { Some(entry) } else { None }
 }
 
-/// The entries of these words; none if a line can't have that many words.
-#[tactic(auto, using(crate::proofs::EntryLemmas::too_many_entries))]
+/// The entries of these words. Most entries have three words or more.
 pub(crate) fn entries<'t>(
     alloc: Global,
     format: &VersionFormat,
@@ -130,21 +126,6 @@ pub(crate) fn entries<'t>(
 ) -> Result<Option<Vec<Entry<'t>>>, AllocError>
     ensures { IfOk result (λ found. option_map plain_entries found ≡
         entries_of (plain_format format.now) (texts words.now)) }
-{
-    if words.len() > MOST_WORDS {
-        return Ok(None);
-    }
-    all_entries(alloc, format, words)
-}
-
-/// The same, however many words there are. Most entries have three words or more.
-fn all_entries<'t>(
-    alloc: Global,
-    format: &VersionFormat,
-    words: &[&'t str],
-) -> Result<Option<Vec<Entry<'t>>>, AllocError>
-    ensures { IfOk result (λ found. option_map plain_entries found ≡
-        all_entries_of (plain_format format.now) (texts words.now)) }
 {
     let mut found = Vec::with_capacity(alloc, words.len() / 3)?;
     let mut rest = if words.is_empty() { None } else { Some(words) };

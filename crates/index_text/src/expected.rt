@@ -39,7 +39,7 @@ pub enum Expected {
     ConditionOrEntry,
     /// The same in a request.
     ConditionOrNeed,
-    /// The line's end: a line has no more words of entries.
+    /// The line's end: a line has no more words.
     LineEnd,
     /// Another version: this one has the line of this number already.
     DuplicateOf(u64),
@@ -87,7 +87,7 @@ impl fmt::Display for Expected {
             Expected::UnionOrNeed => "`|`, `if` or `needs`",
             Expected::ConditionOrEntry => "`and`, `or`, `needs`, `limits`, `favored` or `locked`",
             Expected::ConditionOrNeed => "`and`, `or` or `needs`",
-            Expected::LineEnd => "the line's end: at most 2097152 words are entries",
+            Expected::LineEnd => "the line's end: it has at most 2097152 words",
             Expected::DuplicateOf(line) => {
                 return write!(f, "this version has a line already: line {line}");
             }

@@ -6,6 +6,7 @@ ghost use Rattle.index_text.specs.PlainFormats.{plain_format, plain_keys, plain_
 ghost use Rattle.index_text.specs.Written.{format_of, says_semver, written_on, written_in, versions_in, with_versions};
 
 use crate::line::Line;
+use crate::overlong::is_overlong;
 use crate::semver_versions::{SemverVersions, read_semver};
 use crate::set::version;
 use script_text::{is_word, next_word};
@@ -80,7 +81,7 @@ fn says_semver(lines: &[Line<'_>]) -> bool
     is_word(said.keyword, b"request") && is_word(format, b"semver")
 }
 
-/// Adds the versions of a line.
+/// Adds the versions of a line, unless it has too many words: such a line is unreadable, whatever versions it has.
 fn add_line(alloc: Global, known: &mut BTreeSet<Version>, line: &Line<'_>) -> Result<(), AllocError>
     ensures { OnOk result (plain_keys known.new ≡
         with_versions (plain_keys known.old) (written_on (plain_line line.now).words)) }
@@ -88,6 +89,9 @@ fn add_line(alloc: Global, known: &mut BTreeSet<Version>, line: &Line<'_>) -> Re
     let Some(said) = line.said else {
         return Ok(());
     };
+    if is_overlong(&said) {
+        return Ok(());
+    }
     add_word(alloc, known, said.keyword)?;
     let mut rest = said.rest;
     while let Some((word, others)) = next_word(rest) {

@@ -38,7 +38,6 @@ pub use expected::Expected;
 pub use format::VersionFormat;
 pub use indexes::split;
 pub use line::Line;
-pub use overlong::overlong_request;
 pub use reader::Reader;
 pub use semver_versions::SemverVersions;
 pub use set::{Set, Sets};

@@ -11,6 +11,7 @@ ghost use Rattle.index_text.specs.Written.{format_of};
 use crate::entry::{Entry, entries};
 use crate::format::VersionFormat;
 use crate::line::Line;
+use crate::overlong::is_overlong;
 use crate::version::{Version, version_of};
 use crate::words::split_words;
 use script_text::{is_word, text_of};
@@ -55,7 +56,7 @@ impl<'t> Reader<'t> {
         let Some(said) = line.said else {
             return Ok(None);
         };
-        if !is_word(said.keyword, b"request") {
+        if is_overlong(&said) || !is_word(said.keyword, b"request") {
             return Ok(None);
         }
         split_words(&mut self.words, said.rest)?;
@@ -79,7 +80,7 @@ impl<'t> Reader<'t> {
         let Some(said) = line.said else {
             return Ok(None);
         };
-        if is_word(said.keyword, b"request") {
+        if is_overlong(&said) || is_word(said.keyword, b"request") {
             return Ok(None);
         }
         split_words(&mut self.words, said.rest)?;

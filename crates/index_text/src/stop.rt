@@ -1,18 +1,17 @@
 //! The first word of a line that can't stand there.
-ghost use Rattle.std.specs.Prelude.{◌≡◌, ◌≤◌, ◌+◌, not, false, length, drop, IfOk, IfSome, is_some};
+ghost use Rattle.std.specs.Prelude.{◌≡◌, ◌≤◌, ◌+◌, not, false, length, drop, IfOk, IfSome, Some, is_some};
 ghost use Rattle.std.specs.List.{list_all, prefix_len};
 ghost use Rattle.script_text.specs.Lines.{IsPrinted, is_printed};
 ghost use Rattle.script_text.specs.Words.{words as words_of};
-ghost use Rattle.index_text.specs.Entries.{are_too_many};
-ghost use Rattle.index_text.specs.Expected.{expected_from, expected_in};
-ghost use Rattle.index_text.specs.Expected.{expected_of_entries, expected_of_request, expected_of_version};
+ghost use Rattle.index_text.specs.Expected.{expected_from, expected_in, expected_of};
+ghost use Rattle.index_text.specs.Expected.{expected_of_request, expected_of_version};
 ghost use Rattle.index_text.specs.Indexes.{words_in};
 ghost use Rattle.index_text.specs.Lines.{behind_format};
 ghost use Rattle.index_text.specs.PlainFormats.{plain_format};
 
-use crate::entry::MOST_WORDS;
 use crate::expected::Expected;
 use crate::format::VersionFormat;
+use crate::overlong::{MOST_WORDS, surplus_length};
 use crate::place::{LineKind, Place};
 use crate::words::without_blanks;
 use script_text::{is_word, next_word, text_of};
@@ -43,6 +42,43 @@ pub(crate) fn line_stop(
         let expected = Expected::PrintedByte;
         return Ok(Stop { left, expected });
     }
+    printed_stop(alloc, format, line, kind)
+}
+
+/// Where a printed line stops being a line of this kind: at the first word that is too many, if there is one.
+#[tactic(auto, using(crate::proofs::StopLemmas::surplus))]
+fn printed_stop(
+    alloc: Global,
+    format: &VersionFormat,
+    line: &[u8],
+    kind: LineKind,
+) -> Result<Stop, AllocError>
+    requires { IsPrinted line.now }
+    ensures within { IfOk result (λ stop. stop.left ≤ length line.now) }
+    ensures expected { IfOk result (λ stop.
+        stop.expected ≡ expected_in (plain_format format.now) kind (Some (words_of line.now))) }
+{
+    match surplus_length(line, MOST_WORDS) {
+        Some(left) => {
+            let expected = Expected::LineEnd;
+            Ok(Stop { left, expected })
+        }
+        None => kind_stop(alloc, format, line, kind),
+    }
+}
+
+/// The same, however many words there are.
+fn kind_stop(
+    alloc: Global,
+    format: &VersionFormat,
+    line: &[u8],
+    kind: LineKind,
+) -> Result<Stop, AllocError>
+    requires { IsPrinted line.now }
+    ensures within { IfOk result (λ stop. stop.left ≤ length line.now) }
+    ensures expected { IfOk result (λ stop.
+        stop.expected ≡ expected_of (plain_format format.now) kind (words_of line.now)) }
+{
     let text = without_blanks(line);
     match kind {
         LineKind::Request => request_stop(alloc, format, text),
@@ -114,48 +150,9 @@ fn version_stop(alloc: Global, format: &VersionFormat, text: &[u8]) -> Result<St
     }
 }
 
-/// Where words stop being entries: at the first one that is too many, if there is one.
-#[tactic(auto, using(crate::proofs::StopLemmas::surplus))]
-fn entries_stop(
-    alloc: Global,
-    format: &VersionFormat,
-    words: &[u8],
-    kind: LineKind,
-) -> Result<Stop, AllocError>
-    requires { IsPrinted words.now }
-    ensures within { IfOk result (λ stop. stop.left ≤ length words.now) }
-    ensures expected { IfOk result (λ stop.
-        stop.expected ≡ expected_of_entries (plain_format format.now) kind (words_of words.now)) }
-{
-    match surplus_length(words) {
-        Some(left) => {
-            let expected = Expected::LineEnd;
-            Ok(Stop { left, expected })
-        }
-        None => words_stop(alloc, format, words, kind),
-    }
-}
-
-/// How many bytes there are from the first word on that is one too many; none if there is no such word.
-#[tactic(auto, using(crate::proofs::StopLemmas::passing))]
-pub(crate) fn surplus_length(words: &[u8]) -> Option<usize>
-    ensures some { is_some result ≡ are_too_many (words_of words.now) }
-    ensures within { IfSome result (λ left. left ≤ length words.now) }
-{
-    let (mut rest, mut passed) = (words, 0);
-    'passing: while let Some((_, others)) = next_word(rest) {
-        if passed == MOST_WORDS {
-            return Some(without_blanks(rest).len());
-        }
-        passed += 1;
-        rest = others;
-    }
-    None
-}
-
-/// Where words stop being entries, however many there are.
+/// Where words stop being entries.
 #[tactic(auto, using(crate::proofs::StopLemmas::goes_on, crate::proofs::StopLemmas::stops))]
-fn words_stop(
+fn entries_stop(
     alloc: Global,
     format: &VersionFormat,
     words: &[u8],

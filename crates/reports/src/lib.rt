@@ -2,8 +2,8 @@
 //!
 //! A search answers a list of reasons ([`Reason`]), each of one version. [`merged`] tells those together that say the
 //! same of several versions of a package: a [`Line`] each. [`write_report`] writes them, and [`write_dot`] makes a
-//! graph of them. [`write_report_with_names`] also says which package may be meant by one that there isn't. For a text of
-//! another form, [`write_line_with_names`] writes one line, and [`leads_to`] says which line another one leads to.
+//! graph of them. [`write_report_with_names`] also says which package may be meant by one that there isn't. For a text
+//! of another form, [`write_line_with_names`] writes one line, and [`leads_to`] says which line another one leads to.
 //!
 //! All of it is for any provider. The contracts (`specs/Lines`, `LineTexts`, `Reports`) say that the lines tell the
 //! given reasons, each once, and no others; and that the text of a line is that of `specs/LineTexts`. `specs/Nearest`

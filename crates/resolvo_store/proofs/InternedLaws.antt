@@ -1,5 +1,5 @@
 -- A store stays sound, but for what is tracked, where solvables get variables.
-use Rattle.std.proofs.Common.{◌≡◌, ℕ, ◌+◌, ◌<◌, List, ◌∷◌, ◌++◌, length}
+use Rattle.std.proofs.Common.{[], ◌≡◌, ℕ, ◌+◌, ◌<◌, List, ◌∷◌, ◌++◌, length}
 use Rattle.std.proofs.Common.{map, None, ◌∙◌}
 use Rattle.std.specs.Prelude.{◌-◌, All, flat_map}
 use Rattle.std.proofs.lemmas.List.{length-map}

@@ -1,5 +1,5 @@
 -- What a store keeps stays in order: what each call on a part of it leaves.
-use Rattle.std.proofs.Common.{◌≡◌, ◌≢◌, ℕ, ◌<◌, ◌≤◌, ◌+◌, ◌-◌, ◌*◌, ◌/◌, ◌^◌, min, cond, true, not, List, ◌∷◌}
+use Rattle.std.proofs.Common.{[], ◌≡◌, ◌≢◌, ℕ, ◌<◌, ◌≤◌, ◌+◌, ◌-◌, ◌*◌, ◌/◌, ◌^◌, min, cond, true, not, List, ◌∷◌}
 use Rattle.std.proofs.Common.{◌++◌, length, map, Option, IsSome, Result, Ok, Err, refl, sym, subst}
 use Rattle.std.proofs.Common.{ap, ◌∙◌, inl, inr}
 use Rattle.std.specs.Prelude.{Bool, false, nat_eq, nat_lt, IfSome, IsTrue, OnOk, OnErr}

@@ -1,5 +1,5 @@
 -- What a load leaves in order: variables for solvables, and the lists of a requirement.
-use Rattle.std.proofs.Common.{◌≡◌, ℕ, ◌<◌, ◌+◌, ◌-◌, ◌^◌, true, List, ◌∷◌}
+use Rattle.std.proofs.Common.{[], ◌≡◌, ℕ, ◌<◌, ◌+◌, ◌-◌, ◌^◌, true, List, ◌∷◌}
 use Rattle.std.proofs.Common.{◌++◌, length, map, None, refl, sym, subst}
 use Rattle.std.proofs.Common.{ap, ◌∙◌}
 use Rattle.std.specs.Prelude.{Bool, flat_map, All}

@@ -1,5 +1,5 @@
 -- What calls on the parts of a store leave: the list of clauses, the trackers, the scores.
-use Rattle.std.proofs.Common.{◌≡◌, ℕ, ◌-◌, true, List, ◌∷◌}
+use Rattle.std.proofs.Common.{[], ◌≡◌, ℕ, ◌-◌, true, List, ◌∷◌}
 use Rattle.std.proofs.Common.{map, Option, None, Some, Result, Ok, Err, refl, sym, subst}
 use Rattle.std.proofs.Common.{ap, ◌∙◌, ◌⊎◌, inl, inr}
 use Rattle.std.specs.Prelude.{Bool, false, OnOk, OnErr}

@@ -19,7 +19,7 @@ use Rattle.resolvo_store.specs.Sound.{IsSound, IsPlain, IsVariable, AreLiterals,
 use Rattle.resolvo_store.proofs.KnownLemmas.{IsKnownSolvable, IsLawful}
 use Rattle.resolvo_store.proofs.StoredLaws as stored
 use Rattle.resolvo_store.proofs.InternedLaws as interned
-use Rattle.resolvo_store.proofs.StoredStores.{IsStored-sound, IsSound-stored}
+use Rattle.resolvo_store.proofs.StoredStores.{IsStored, IsStored-sound, IsSound-stored}
 use Rattle.resolvo_store.proofs.TrackingLaws.{AreTracked-clause, AreTracked-origin, AreTracked-variables}
 
 module _ {N S : Type 0} (st : Store N S) (sound : IsSound st) where
@@ -75,7 +75,7 @@ module _ {N S : Type 0} (st : Store N S) (sound : IsSound st) where
   pub IsSound-hands_next : IsSound (hands_next st (slice_get st.trail st.place)).store
   IsSound-hands_next = by_entry (slice_get st.trail st.place) (stored.IsStored-hands_next st (IsStored-sound sound))
     where
-      by_entry : (o : Option Entry) → stored.IsStored (hands_next st o).store → IsSound (hands_next st o).store
+      by_entry : (o : Option Entry) → IsStored (hands_next st o).store → IsSound (hands_next st o).store
       by_entry None h = sound
       by_entry (Some e) h = IsSound-stored h sound.tracked
 

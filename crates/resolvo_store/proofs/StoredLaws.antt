@@ -1,5 +1,5 @@
 -- What is true of a store, but for what is tracked, stays true where it has more in it, or less.
-use Rattle.std.proofs.Common.{◌≡◌, ℕ, ◌+◌, ◌<◌, ◌≤◌, Bool, true, false, cond, List, ◌∷◌, ◌++◌, length}
+use Rattle.std.proofs.Common.{[], ◌≡◌, ℕ, ◌+◌, ◌<◌, ◌≤◌, Bool, true, false, cond, List, ◌∷◌, ◌++◌, length}
 use Rattle.std.proofs.Common.{length-append, map, Option, None, Some, IsSome, refl, arith, sym, ◌∙◌, ap, subst}
 use Rattle.std.specs.Prelude.{IfSome, ◌-◌, min, take, slice_get, All, is_some}
 use Rattle.std.proofs.lemmas.List.{length-set, map-append, append-nil}

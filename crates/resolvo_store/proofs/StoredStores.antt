@@ -1,5 +1,5 @@
 -- A sound store, but for what is tracked in it.
-use Rattle.std.proofs.Common.{◌≡◌, ℕ, ◌≤◌, ◌∷◌, length}
+use Rattle.std.proofs.Common.{[], ◌≡◌, ℕ, ◌≤◌, ◌∷◌, length}
 use Rattle.std.proofs.Common.{map}
 use Rattle.std.specs.Prelude.{◌-◌, All}
 use Rattle.std.specs.List.{IsDistinct}

@@ -1,5 +1,5 @@
 -- A cache that keeps more: what is kept is still right, and what was kept is still kept.
-use Rattle.std.proofs.Common.{rules, ◌≡◌, Bool, true, false, cond, ℕ, ◌<◌, List, ◌∷◌}
+use Rattle.std.proofs.Common.{[], rules, ◌≡◌, Bool, true, false, cond, ℕ, ◌<◌, List, ◌∷◌}
 use Rattle.std.proofs.Common.{◌^◌, leb, ◌++◌, length, slice_get, is_some, Option, None, Some, take}
 use Rattle.std.proofs.Common.{drop, get_or, true≢false, ◌≤◌, ◌∙◌, ap, refl, sym, subst, arith}
 use Rattle.std.specs.List.{list_any}

@@ -1,5 +1,5 @@
 -- A union that isn't kept: version sets that are asked for in turn keep none.
-use Rattle.std.proofs.Common.{◌≡◌, Bool, true, false, cond, List, ◌∷◌}
+use Rattle.std.proofs.Common.{[], ◌≡◌, Bool, true, false, cond, List, ◌∷◌}
 use Rattle.std.proofs.Common.{◌++◌, is_some, Option, None, Some}
 use Rattle.std.proofs.Common.{◌∙◌, ap, refl}
 use Rattle.std.specs.Map.{lookup}

@@ -7,7 +7,7 @@ use Rattle.index_text.specs.Lines.{request_said, version_said}
 use Rattle.index_text.specs.PlainFormats.{plain_format}
 use Rattle.index_text.specs.PlainLines.{plain_line}
 use Rattle.index_text.specs.Written.{format_of}
-use Rattle.index_text.proofs.diagnosis.line_fault.Goals as goal
+use Rattle.index_text.proofs.diagnosis.diagnose.Goals as goal
 
 -- the first line is read as a request
 first_readable : (format : VersionFormat) (number : ℕ) (lines : List NumberedWords) (line : NumberedWords)

@@ -1,11 +1,11 @@
-use Rattle.std.proofs.Common.{◌≡◌, ◌+◌, ◌^◌, ◌≤◌, length}
+use Rattle.std.proofs.Common.{◌≡◌, ◌+◌, ◌≤◌, length}
 use Rattle.script_text.specs.Words.{words as words_of}
-use Rattle.index_text.proofs.stop.surplus_length.Given as goal
+use Rattle.index_text.proofs.overlong.surplus_length.Given as goal
 
 abbrev pub invariant-passing : goal.invariant-passing
 invariant-passing l = record {
   counted : l.passed + length (words_of l.rest) ≡ length (words_of l.words);
-  few : l.passed ≤ 2 ^ 21;
+  few : l.passed ≤ l.most;
   within : length l.rest ≤ length l.words;
 }
 

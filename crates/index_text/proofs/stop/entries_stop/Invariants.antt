@@ -4,7 +4,7 @@ use Rattle.script_text.specs.Words.{words as words_of}
 use Rattle.index_text.specs.Expected.{expected_from}
 use Rattle.index_text.specs.PlainFormats.{plain_format}
 use Rattle.index_text.specs.declared.place.Place.TheVariants as At
-use Rattle.index_text.proofs.stop.words_stop.Given as goal
+use Rattle.index_text.proofs.stop.entries_stop.Given as goal
 
 abbrev pub invariant-loop-word : goal.invariant-loop-word
 invariant-loop-word l = record {
