@@ -14,7 +14,7 @@ use Rattle.resolvo_pool.specs.PoolIds.{set_name_in}
 use Rattle.resolvo_pool.specs.Texts.{Texts}
 use Rattle.resolvo_pool.specs.Types.Dependencies.{Dependencies}
 use Rattle.resolvo_pool.specs.Types.Solvable.{Solvable}
-use Rattle.debian_provider.specs.Sets.{has}
+use Rattle.debian_provider.specs.Sets.{has, plain_set}
 use Rattle.debian_provider.specs.Texts.{package_text, set_text}
 use Rattle.debian_provider.specs.declared.set.Set.{Set}
 
@@ -63,7 +63,7 @@ module _ (pool : Ids) where
 abbrev pub set_has : List ℕ → Option Set → Option Package → Bool
 set_has native None p = false
 set_has native (Some set) None = false
-set_has native (Some set) (Some p) = has native set (plain_package p)
+set_has native (Some set) (Some p) = has native (plain_set set) (plain_package p)
 
 -- whether a version set has a solvable's package
 abbrev pub matches_in : List ℕ → Ids → List Package → VersionSetId → ℕ → Bool
@@ -71,7 +71,7 @@ matches_in native pool packages v s = set_has native (set_in pool v) (package_in
 
 abbrev pub set_text_of : List ℕ → Option Set → List ℕ
 set_text_of name None = []
-set_text_of name (Some set) = utf8_lossy (set_text name set)
+set_text_of name (Some set) = utf8_lossy (set_text name (plain_set set))
 
 abbrev pub texts_in : Ids → List Package → Texts ℕ ℕ
 texts_in pool packages = record {

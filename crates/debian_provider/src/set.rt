@@ -30,7 +30,7 @@ impl VersionSet for Set<'_> {
 impl Set<'_> {
     /// Whether the set has this version of the name.
     pub(crate) fn has(&self, native: &[u8], one: &Package<'_>) -> bool
-        ensures { result ≡ spec.has native.now self.now (plain_package one.now) }
+        ensures { result ≡ spec.has native.now (spec.plain_set self.now) (plain_package one.now) }
     {
         match self {
             Set::All => true,

@@ -1,6 +1,7 @@
 //! The texts of versions and of version sets, as bytes.
 ghost use Rattle.std.specs.Prelude.{◌≡◌, ◌++◌, codes, option_map, IfOk, OnOk};
 ghost use Rattle.debian_text.specs.Plain.{plain_bound, plain_relation};
+ghost use Rattle.debian_provider.specs.Sets.{plain_set};
 ghost use Rattle.debian_provider.specs.Texts as spec;
 
 use crate::set::Set;
@@ -23,7 +24,7 @@ pub(crate) fn package_text(alloc: Global, one: &Package<'_>) -> Result<Vec<u8>, 
 /// What a set says of the versions of a name, as `(>= 1:2.0)` or `as mail-transport-agent`; nothing if it has all of
 /// them.
 pub(crate) fn set_text(alloc: Global, name: &[u8], set: &Set<'_>) -> Result<Vec<u8>, AllocError>
-    ensures { IfOk result (λ text. text.items ≡ spec.set_text name.now set.now) }
+    ensures { IfOk result (λ text. text.items ≡ spec.set_text name.now (plain_set set.now)) }
 {
     let mut text = Vec::new(alloc);
     match set {
