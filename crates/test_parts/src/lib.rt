@@ -7,9 +7,6 @@
 //! (`decided`), the literals of clauses (`clause_literals`), watch lists (`watches`), trackers, counters (`counted`).
 //! Conversions of conditions are made so too, also of such as are nested deep (`conditions`).
 //!
-//! Which clause is falsified and comes first is told by examples, of groups of literals (`counters`) and of requires
-//! clauses (`falsified`): so the definitions say what was meant.
-//!
 //! The texts are those of requirements, of keys, of solvables together, and of ids where a failed test shows them
 //! (`texts`, `ids`), and those of errors (`error_texts`). `hashes` has hashes, `one_refusal` what the allocator that
 //! refuses a request does.
@@ -21,13 +18,9 @@
 #[cfg(test)]
 mod conditions;
 #[cfg(test)]
-mod counters;
-#[cfg(test)]
 mod each_request;
 #[cfg(test)]
 mod error_texts;
-#[cfg(test)]
-mod falsified;
 #[cfg(test)]
 mod hashes;
 #[cfg(test)]

@@ -13,24 +13,6 @@ use std::test::Fail;
 /// A wish: that the versions at these places are picked, or aren't, the best first.
 type Wished = &'static [(u32, bool)];
 
-/// Shows that what is installed stays, though there are newer versions.
-#[test]
-fn what_is_installed_stays(rt: HostRuntime) -> Result<(), Fail> {
-    let index =
-        "request needs app 1..9\napp 1 needs lib 1..9\napp 2 needs lib 2..9\nlib 1\nlib 2\nlib 3\n";
-    let said = said(
-        rt.alloc(),
-        index,
-        &[&[(0, true)], &[(3, true), (4, true)]],
-        1000,
-    )?;
-    assert_eq!(rt;
-        said.as_str(),
-        "app 1 requested; lib 2 by 0; ranks 0 0; best by 2"
-    );
-    Ok(())
-}
-
 /// Shows that an earlier wish counts for more than a later one.
 #[test]
 fn the_first_wish_counts_most(rt: HostRuntime) -> Result<(), Fail> {

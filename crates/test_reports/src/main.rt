@@ -1,16 +1,10 @@
 //! A test: the reports of indexes without a solution.
 //!
 //! Each index of standard input is answered by `picking`, and its report is printed. docs/CONFLICTS has the same
-//! indexes and reports.
+//! indexes and reports, down to the line `# Not in docs/CONFLICTS`.
 #![tactic(auto)]
 
-#[cfg(test)]
-mod graphs;
-#[cfg(test)]
-mod many;
 mod reporting;
-#[cfg(test)]
-mod slips;
 
 use reporting::write_reports;
 use std::io::Read;

@@ -1,8 +1,6 @@
 //! Reports of indexes.
 use example_index::{IndexFault, SmallIndex};
 use picking::{Answer, pick};
-#[cfg(test)]
-use reports::write_dot;
 use reports::write_report_with_names;
 use resolvo_ids::{DenseIndex, NameId, StoreError};
 use resolvo_pool::Interner;
@@ -55,33 +53,4 @@ fn names_of(alloc: Global, index: &SmallIndex) -> Result<Vec<NameId>, StoreError
         names.push(name)?;
     }
     Ok(names)
-}
-
-/// Writes the graph of each index of a text.
-#[cfg(test)]
-pub(crate) fn write_graphs(
-    alloc: Global,
-    input: &[u8],
-    text: &mut String,
-) -> Result<(), IndexFault> {
-    let indexes = index_text::split(alloc, input)?;
-    for lines in &indexes {
-        let index = example_index::read(alloc, lines)?;
-        write_index_graph(alloc, &index, text)?;
-        drop(index);
-    }
-    Ok(())
-}
-
-/// Searches an index, and writes why there is no solution, as a graph.
-#[cfg(test)]
-fn write_index_graph(
-    alloc: Global,
-    index: &SmallIndex,
-    text: &mut String,
-) -> Result<(), StoreError> {
-    match pick(alloc, index, index.request(), STEPS)? {
-        Answer::Unsolvable(found) => write_dot(index, &found.reasons, text),
-        _ => Ok(text.push_str("no graph\n")?),
-    }
 }
