@@ -4,7 +4,7 @@ use crate::set::Set;
 use debian_installable::is_blank;
 use debian_scenario::Package;
 use debian_text::Relation;
-use resolvo_ids::{SolvableId, StoreError};
+use resolvo_ids::{NameId, SolvableId, StoreError};
 
 impl<'t> Archive<'_, 't> {
     /// For each group of a field of a package the solvables that meet it, in the order of its alternatives. They come
@@ -70,6 +70,16 @@ impl<'t> Archive<'_, 't> {
         }
         let name = self.rules.name_of(package);
         let name = self.reach(name)?;
+        self.add_version_at(name, place, solvables)
+    }
+
+    /// Adds the version of a name that is at a place, if there is one and it isn't there.
+    fn add_version_at(
+        &self,
+        name: NameId,
+        place: usize,
+        solvables: &mut Vec<SolvableId>,
+    ) -> Result<(), StoreError> {
         for solvable in self.reached.versions_of(name) {
             if self.reached.place_of(*solvable) == Some(place) && !solvables.contains(solvable) {
                 solvables.push(*solvable)?;

@@ -9,7 +9,7 @@ use debian_directory::Name;
 use debian_installable::{is_blank, is_same};
 use debian_scenario::Package;
 use debian_text::Relation;
-use resolvo_ids::{StoreError, VersionSetId};
+use resolvo_ids::{ConditionId, StoreError, VersionSetId};
 use resolvo_pool::{ConditionalRequirement, Dependencies, KnownDependencies, Requirement};
 
 impl<'t> Archive<'_, 't> {
@@ -52,7 +52,7 @@ impl<'t> Archive<'_, 't> {
             let Some(requirement) = self.requirement(package, group)? else {
                 return Ok(false);
             };
-            requirements.push(ConditionalRequirement::from(requirement))?;
+            push_requirement(requirements, requirement)?;
         }
         Ok(true)
     }
@@ -238,6 +238,19 @@ impl<'t> Archive<'_, 't> {
         }
         self.add_set(name, set, constrains)
     }
+}
+
+/// Adds a requirement that has no condition.
+pub(crate) fn push_requirement(
+    requirements: &mut Vec<ConditionalRequirement>,
+    requirement: Requirement,
+) -> Result<(), StoreError> {
+    let condition: Option<ConditionId> = None;
+    requirements.push(ConditionalRequirement {
+        condition,
+        requirement,
+    })?;
+    Ok(())
 }
 
 /// The name that a relation says: in this architecture, or the one behind the colon.

@@ -1,10 +1,11 @@
 //! What has to be there.
 use crate::archive::Archive;
+use crate::needs::push_requirement;
 use crate::set::Set;
 use debian_directory::{Name, names_of};
 use debian_scenario::Package;
 use resolvo_ids::{SolvableId, StoreError};
-use resolvo_pool::{ConditionalRequirement, Requirement};
+use resolvo_pool::Requirement;
 
 impl<'t> Archive<'_, 't> {
     /// Adds the names of `Install`.
@@ -16,7 +17,7 @@ impl<'t> Archive<'_, 't> {
         )?;
         for name in &names {
             let requirement = self.requirement_of(*name)?;
-            self.requirements.push(requirement)?;
+            push_requirement(&mut self.requirements, requirement)?;
         }
         Ok(())
     }
@@ -37,9 +38,9 @@ impl<'t> Archive<'_, 't> {
         let name = self.rules.name_of(package);
         let requirement = self.requirement_of(name)?;
         if self.rules.must_stay(package) {
-            self.requirements.push(requirement)?;
+            push_requirement(&mut self.requirements, requirement)?;
         } else if !self.rules.is_to_go(name) && self.is_to_be_kept(package) {
-            self.kept.push(requirement)?;
+            push_requirement(&mut self.kept, requirement)?;
         }
         Ok(())
     }
@@ -67,9 +68,9 @@ impl<'t> Archive<'_, 't> {
     }
 
     /// That a version of a name is there.
-    fn requirement_of(&mut self, name: Name<'t>) -> Result<ConditionalRequirement, StoreError> {
+    fn requirement_of(&mut self, name: Name<'t>) -> Result<Requirement, StoreError> {
         let id = self.reach(name)?;
         let set = self.reached.add_set(id, Set::All)?;
-        Ok(ConditionalRequirement::from(Requirement::Single(set)))
+        Ok(Requirement::Single(set))
     }
 }

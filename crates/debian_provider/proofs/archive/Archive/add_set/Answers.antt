@@ -1,4 +1,4 @@
-use Rattle.std.proofs.Common.{◌≡◌, length, ap, sym, subst, arith}
+use Rattle.std.proofs.Common.{length, ap, sym, subst, arith}
 use Rattle.resolvo_pool.specs.Pool.{AreSetsHere}
 use Rattle.debian_provider.proofs.Growing.{sets_pushed, sets_still}
 use Rattle.debian_provider.proofs.archive.Archive.add_set.Goals as goal

@@ -1,0 +1,6 @@
+pub mod Examples
+pub mod ForestLemmas
+pub mod GrowingLemmas
+pub mod ReportLemmas
+pub mod RowLemmas
+pub mod TreeLemmas

@@ -1,0 +1,10 @@
+use Rattle.std.proofs.Common.{◌≡◌, map, take}
+use Rattle.report_trees.specs.Growing.{lists}
+use Rattle.reports.specs.Graphs.{leads_to}
+use Rattle.report_trees.proofs.lines.edges_of.Given as goal
+
+abbrev pub invariant-loop-line : goal.invariant-loop-line
+invariant-loop-line g l =
+    let leads = leads_to g.P.NameId.PartialEq.eq (g.P.Interner.universe l.provider)
+    (g.P.DependencyProvider.answers l.provider) in
+    lists l.edges.items ≡ map (λ from. map (leads from) l.lines) (take l.line-index l.lines)

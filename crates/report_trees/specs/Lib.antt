@@ -1,0 +1,4 @@
+pub mod Forests
+pub mod Growing
+pub mod TreeTexts
+pub mod Trees
