@@ -9,6 +9,8 @@ from reading import Unreadable
 HEAD = "c certificate "
 NUMBER = re.compile("-?[1-9][0-9]{0,8}")
 NONE_THERE = ", and there is none"
+# For each word that forbids a version how a reason says that.
+FORBIDDEN = {"excluded": "{} is excluded", "unknown": "what {} needs is unknown"}
 
 
 class Refused(Exception):
@@ -125,9 +127,9 @@ class Sayings:
             self.add(line, self.contradicts_need, parent, spans, condition)
         for line, parent, limit in index.all_limits():
             self.add(line, self.contradicts_limit, parent, limit)
-        for words, versions in (("is excluded", "excluded"), ("needs what can't be told", "unknown")):
-            for version in index.marked[versions]:
-                self.add(f"{said(version)} {words}", lambda trues, _, it: is_sure(trues, {it}), version)
+        for word, words in FORBIDDEN.items():
+            for version in index.marked[word]:
+                self.add(words.format(said(version)), lambda trues, _, it: is_sure(trues, {it}), version)
         for name, locked in index.locked.items():
             others = set(index.of_name(name)) - {locked}
             self.add(f"{said(locked)} is locked", lambda trues, _, others: is_sure(trues, others), others)

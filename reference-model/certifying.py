@@ -4,7 +4,7 @@ The search decides variables in turn. A conflict teaches that the decisions behi
 """
 import itertools
 
-from certificates import NONE_THERE
+from certificates import FORBIDDEN, NONE_THERE
 from indexes import said, span_text
 
 
@@ -21,9 +21,9 @@ class Encoding:
         for line, parent, limit in index.all_limits():
             for other in set(index.of_name(limit[0])) - set(index.among([limit])):
                 self.add(line, parent, -self.picked(other))
-        for word, told in (("excluded", "is excluded"), ("unknown", "needs what can't be told")):
+        for word, words in FORBIDDEN.items():
             for version in index.marked[word]:
-                self.add(f"{said(version)} {told}", version)
+                self.add(words.format(said(version)), version)
         for name, locked in index.locked.items():
             for other in set(index.of_name(name)) - {locked}:
                 self.add(f"{said(locked)} is locked", other)
