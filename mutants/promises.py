@@ -3,7 +3,8 @@ import re
 
 import mutants
 
-PAGES = [mutants.HERE.parent / "docs" / name for name in ("PROMISES.md", "PROMISES-OF-PARTS.md", "PROMISES-OF-PICKING.md")]
+NAMES = "PROMISES.md PROMISES-OF-PARTS.md PROMISES-OF-PICKING.md PROMISES-OF-DEBIAN.md"
+PAGES = [mutants.HERE.parent / "docs" / name for name in NAMES.split()]
 
 
 def chapters():

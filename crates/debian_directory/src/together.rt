@@ -20,8 +20,10 @@ use std::alloc::{AllocError, Global};
 /// Packages that are there together.
 #[derive(Drop)]
 pub struct Together<'p, 't> {
-    native: &'t [u8],
-    packages: &'p [Package<'t>],
+    /// The native architecture.
+    pub native: &'t [u8],
+    /// All that are there.
+    pub packages: &'p [Package<'t>],
     directory: Directory<'t>,
     ghost of_packages: { IsDirectoryOf (map plain_package packages.now) directory } by { Prim.hlevel props },
 }

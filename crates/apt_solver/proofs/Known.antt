@@ -1,0 +1,61 @@
+-- Packages of a scenario, and what is said of them.
+use Rattle.std.proofs.Common.{◌≡◌, ◌∙◌, ◌<◌, ◌++◌, Bool, true, List, [], ◌∷◌, ℕ, All, Contains, Ok, ap, arith}
+use Rattle.std.proofs.Common.{get_or, inl, inr, length, map, subst, sym}
+use Rattle.std.proofs.lemmas.List.{get_or-map, length-map}
+use Rattle.std.proofs.lemmas.List.Elements.{All-map, All-push, All-same, All-weaker}
+use Rattle.debian_scenario.specs.Packages.{PackageText}
+use Rattle.debian_scenario.specs.Plain.{plain_package, plain_request, plain_scenario}
+use Rattle.debian_scenario.specs.Requests.{RequestText}
+use Rattle.debian_scenario.specs.Scenarios.{scenario_of}
+use Rattle.debian_scenario.specs.declared.package.Package.{Package}
+use Rattle.debian_scenario.specs.declared.scenario.Scenario.{Scenario}
+use Rattle.debian_directory.specs.Answers.{is_answer}
+use Rattle.apt_solver.specs.Difference.{answer_text}
+use Rattle.apt_solver.specs.Program.{IsSaid, IsSaidOf, SaysAnswer, is_whole}
+
+Contains-map : {X Y : Type 0} (f : X → Y) (xs : List X) (x : X) → Contains xs x → Contains (map f xs) (f x)
+Contains-map f xs x at =
+    let within : at.0 < length (map f xs) = omega (arith, at.1, length-map xs f) in
+    (at.0, within, get_or-map f xs at.0 x (f x) at.1 ∙ ap f at.2)
+
+known_texts : (packages there : List Package) → All (Contains packages) there
+    → All (Contains (map plain_package packages)) (map plain_package there)
+known_texts packages there known =
+    All-map (Contains (map plain_package packages)) plain_package there
+    (All-weaker (Contains packages) (λ p. Contains (map plain_package packages) (plain_package p))
+    (Contains-map plain_package packages) there known)
+
+-- packages that passed the check are said to be there
+pub checked_said : (request : RequestText) (packages there : List Package) (confirmed : Bool) (said : List ℕ)
+    → All (Contains packages) there → confirmed ≡ true
+    → confirmed ≡ is_answer request (map plain_package packages) (map plain_package there)
+    → said ≡ answer_text request.architecture (map plain_package packages) (map plain_package there)
+    → IsSaidOf request (map plain_package packages) said
+checked_said request packages there confirmed said known passed checked is =
+    inl (record {
+      there = map plain_package there;
+      known = known_texts packages there known;
+      answers = sym checked ∙ passed;
+      is = is;
+    })
+
+-- what is said to a scenario is said to its text
+pub of_scenario : (text : List ℕ) (scenario : Scenario) (packages : List Package) (said : List ℕ)
+    → is_whole text ≡ true → scenario_of text ≡ Ok (plain_scenario scenario) → packages ≡ scenario.packages.items
+    → IsSaidOf (plain_request scenario.request) (map plain_package packages) said → IsSaid text said
+of_scenario text scenario packages said whole means same (inl says) =
+    inl (record {
+      whole = whole;
+      scenario = plain_scenario scenario;
+      means = means;
+      says = subst (λ (ps : List Package). SaysAnswer (plain_request scenario.request) (map plain_package ps) said) same
+          says;
+    })
+of_scenario text scenario packages said whole means same (inr error) = inr error
+
+-- one package more
+pub add_known : (packages there more : List Package) (place : ℕ) (p : Package) → All (Contains packages) there
+    → place < length packages → p ≡ get_or packages place p → more ≡ there ++ p ∷ [] → All (Contains packages) more
+add_known packages there more place p known within is same =
+    All-same (Contains packages) more (there ++ p ∷ []) same
+    (All-push (Contains packages) there p known (place, within, sym is))

@@ -1,0 +1,4 @@
+pub mod Changes
+pub mod Difference
+pub mod Errors
+pub mod Program

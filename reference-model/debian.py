@@ -1,0 +1,167 @@
+"""What a scenario of apt says (docs/APT.md), and which packages are an answer to it, by Debian's rules."""
+import re
+
+RELATION = re.compile(r"\s*([^\s(:|]+)(?::([^\s(:|]+))?\s*(?:\((<<|<=|<|=|>=|>|>>)\s*([^\s)(|]+)\s*\))?\s*")
+SIGNS = {"<<": (-1,), "<": (-1, 0), "<=": (-1, 0), "=": (0,), ">": (0, 1), ">=": (0, 1), ">>": (1,)}
+
+
+def weight(letter):
+    """The place of a letter in the order: `~` is before the end, and letters are before all other characters."""
+    if letter == "~":
+        return -1
+    return ord(letter) if letter.isalpha() else ord(letter) + 256
+
+
+def key(part):
+    """What orders a part of a version: what isn't a digit, letter by letter, and the number behind it, in turn."""
+    return [
+        item
+        for text, digits in re.findall(r"(\D*)(\d*)", part)
+        for item in ([*map(weight, text), 0], int(digits or 0))
+    ]
+
+
+def split(version):
+    epoch, rest = version.split(":", 1) if ":" in version else ("0", version)
+    upstream, revision = rest.rsplit("-", 1) if "-" in rest else (rest, "")
+    return int(epoch), key(upstream), key(revision)
+
+
+def order(version, other):
+    """-1, 0 or 1, as one version is before, beside or behind the other."""
+    for mine, its in zip(split(version), split(other)):
+        if isinstance(mine, list):
+            longest = max(len(mine), len(its))
+            mine, its = ([*it, *[[0], 0] * longest][:longest] for it in (mine, its))
+        if mine != its:
+            return -1 if mine < its else 1
+    return 0
+
+
+def parts_of(field, mark):
+    """The parts of a field between marks, but for blank ones."""
+    return [part for part in field.split(mark) if part.strip()]
+
+
+class Relation:
+    """A relation, as `git:any (>= 1:2.0)`. One that can't be read is met by nothing."""
+
+    def __init__(self, text):
+        found = RELATION.fullmatch(text)
+        self.is_readable = found is not None
+        self.name, self.qualifier, self.sign, self.version = found.groups() if found else (None,) * 4
+
+    def has(self, version):
+        """Whether a version is within the bound. What has none is within none."""
+        return not self.sign or version is not None and order(version, self.version) in SIGNS[self.sign]
+
+    def means(self, package):
+        """Whether this is about the package, or something that it provides."""
+        if self.name == package.name and self.has(package.version):
+            return True
+        given = map(Relation, parts_of(package.get("Provides"), ","))
+        return any(it.is_readable and it.name == self.name and self.has(it.version) for it in given)
+
+
+class Package:
+    """A stanza about a package."""
+
+    def __init__(self, place, fields, native):
+        self.place, self.fields = place, fields
+        self.name, self.version = fields["Package"], fields["Version"]
+        self.architecture = native if fields["Architecture"] == "all" else fields["Architecture"]
+        self.full_name = self.name, self.architecture
+
+    def get(self, field):
+        return self.fields.get(field, "")
+
+    def says(self, field):
+        return self.get(field) == "yes"
+
+    def is_met_by(self, relation, other):
+        """Whether another package is enough for a relation of this one."""
+        if not relation.is_readable or not relation.means(other):
+            return False
+        if relation.qualifier not in (None, "any"):
+            return other.architecture == relation.qualifier
+        kinds = ("foreign",) if relation.qualifier is None else ("foreign", "allowed")
+        return other.architecture == self.architecture or other.get("Multi-Arch") in kinds
+
+    def is_met(self, there):
+        """Whether what this package depends on is there."""
+        return all(
+            any(self.is_met_by(relation, other) for relation in map(Relation, group.split("|")) for other in there)
+            for field in ("Pre-Depends", "Depends")
+            for group in parts_of(self.get(field), ",")
+        )
+
+    def is_free(self, there):
+        """Whether nothing is there that this package conflicts with, but perhaps itself."""
+        for field in ("Conflicts", "Breaks"):
+            for relation in map(Relation, parts_of(self.get(field), ",")):
+                if not relation.is_readable:
+                    return False
+                others = [it for it in there if it.full_name != self.full_name and relation.means(it)]
+                if any(relation.qualifier in (None, "any", it.architecture) for it in others):
+                    return False
+        return True
+
+    def fits(self, other):
+        """Whether both may be there, if they have one name: in two architectures, each `same`, in one version."""
+        if self.name != other.name:
+            return True
+        both = self.get("Multi-Arch"), other.get("Multi-Arch")
+        return both == ("same", "same") and self.version == other.version and self.architecture != other.architecture
+
+
+class Scenario:
+    """A request, and packages."""
+
+    def __init__(self, request, packages):
+        self.request = request
+        self.native = request["Architecture"]
+        self.packages = [Package(place, fields, self.native) for place, fields in enumerate(packages)]
+        self.asked, self.gone = (self.names(field) for field in ("Install", "Remove"))
+        self.installed = {it.full_name for it in self.packages if it.says("Installed")}
+        self.held = {it.full_name for it in self.packages if it.says("Hold")}
+
+    def says(self, *fields):
+        return any(self.request.get(field) == "yes" for field in fields)
+
+    def names(self, field):
+        """The names of a field of the request, each with its architecture."""
+        words = [word.partition(":") for word in self.request.get(field, "").split()]
+        return {(name, self.native if where in ("", "all") else where) for name, _, where in words}
+
+    def may_be_picked(self, package):
+        """Whether an answer may have a package: it is installed, or the candidate of a name that may change."""
+        name = package.full_name
+        if name in self.gone:
+            return False
+        if package.says("Installed"):
+            return True
+        if self.request.get("Strict-Pinning") != "no" and not package.says("APT-Candidate"):
+            return False
+        if name in self.held and name not in self.asked:
+            return False
+        return name in self.installed or not self.says("Forbid-New-Install", "Upgrade")
+
+    def must_stay(self, package):
+        """Whether a version of the package's name has to be there."""
+        if not package.says("Installed") or package.full_name in self.gone:
+            return False
+        return self.says("Forbid-Remove", "Upgrade") or package.says("Essential") or package.says("Hold")
+
+    def needed(self):
+        """The names of which a version has to be there."""
+        return self.asked | {it.full_name for it in self.packages if self.must_stay(it)}
+
+    def is_answer(self, there):
+        """Whether these packages are an answer."""
+        pairs = ((one, other) for place, one in enumerate(there) for other in there[:place])
+        return (
+            all(map(self.may_be_picked, there))
+            and self.needed() <= {it.full_name for it in there}
+            and all(one.fits(other) for one, other in pairs)
+            and all(it.is_met(there) and it.is_free(there) for it in there)
+        )
