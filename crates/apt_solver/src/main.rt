@@ -15,8 +15,6 @@ mod finding;
 mod reasons;
 mod recommending;
 mod solving;
-#[cfg(test)]
-mod tests;
 mod wishes;
 
 use answering::answer;
