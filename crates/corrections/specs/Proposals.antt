@@ -51,4 +51,4 @@ module _ {N S : Type 0} (universe : Universe N S) (texts : Texts N S) where
   text_of_all (first ∷ others) = text_of_named first ++ text_of_each others
 
   abbrev pub text_of_proposals : List ConditionalRequirement → List ℕ
-  text_of_proposals named = codes "leave out one of: " ++ (text_of_all named ++ codes "\n")
+  text_of_proposals named = codes "at least one has to go: " ++ (text_of_all named ++ codes "\n")

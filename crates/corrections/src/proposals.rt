@@ -15,7 +15,7 @@ use std::alloc::Allocator;
 
 type Done = Result<(), StoreError>;
 
-/// Appends the line `leave out one of: app 1..20, lib 2..3`: the requirements of the request that the reasons name.
+/// Appends the line `at least one has to go: app 1..20, lib 2..3`: requirements of the request that the reasons name.
 /// If the reasons are true and enough, a request that has all of these has no solution, whatever else it has.
 pub fn write_proposals<D: DependencyProvider>(
     provider: &D,
@@ -29,7 +29,7 @@ pub fn write_proposals<D: DependencyProvider>(
         AreSo p requested reasons.now → IsForbidden p (named_in reasons.now)) }
 {
     let named = named_in(*text.allocator(), reasons)?;
-    text.push_str("leave out one of: ")?;
+    text.push_str("at least one has to go: ")?;
     write_all(provider, &named, text)?;
     Ok(text.push_str("\n")?)
 }

@@ -22,7 +22,8 @@ returns-clause-text g c =
     let text = text_of_all (g.D.Interner.universe c.args.provider.now) (g.D.Interner.texts c.args.provider.now) in
     let begun = string_bytes c.push_str.new.self in
     in_three (string_bytes c.args.text.now) begun (string_bytes c.write_all.new.text)
-    (string_bytes c.push_str-2.new.self) (codes "leave out one of: ") (text (named_in c.args.reasons.now)) (codes "\n")
+    (string_bytes c.push_str-2.new.self) (codes "at least one has to go: ") (text (named_in c.args.reasons.now))
+    (codes "\n")
     c.in_ok-push_str.ensures.bytes
     (c.in_ok-write_all.ensures
     ∙ ap (λ (named : List ConditionalRequirement). begun ++ text named)
