@@ -53,12 +53,40 @@ PICK_VERSIONS |= {
     "line": (3, "line {} unreadable\n", r"standard input:{}:\d+: [ -~]+\n"),
     "none": (1, NONE, r"(standard input:1: note: [ -~]+\n)*"),
 }
+# With --json it says nothing of an index on standard error.
+JSON = indexes(0, "", (4, ANYTHING, LINE))
+JSON |= {word: (0, r'\{"best_up_to":(?s:.*)', "") for word in ("a 1", "no version", "versions", "indexes")}
+JSON |= {
+    "answer": (0, r'\{.*"picked":\[\{"name":"a","version":"2"\},\{"name":"b","version":"1"\}\],.*"wishes":1\}\n', ""),
+    "none": (1, r'\{"input":.*"reasons":\[\{"if":null,"kind":(?s:.*)', ""),
+    "line": (3, r'\{.*"status":"unreadable","unreadable":\{"column":\d+,"line":{},"said":"(?s:.*)"\}\}\n', ""),
+}
 # No graph can be written.
 FULL = PICK_VERSIONS | {"none": (4, NONE, PICK_VERSIONS["none"][2] + r'"/dev/full": [ -~]+\n')}
 # It takes one index.
 PICK |= {"indexes": (3, "line 3 unreadable\n", "")}
 # It tries the first megabyte of any input, and takes as many searches as the answer has bytes.
 ROOMS = {"any": (0, r"\d+ buffers: as picking.h says\n", "")}
+
+
+def error(message):
+    return rf"Error: apt_solver\nMessage: {message}\n\n"
+
+
+INSTALL = r"Install: \d+\nPackage: [a-z0-9]+\nVersion: \d+\nArchitecture: amd64\n\n"
+# What it says of a scenario is in docs/APT.md.
+SOLVER = {
+    "cut": (0, error("the scenario doesn't end with an empty line"), ""),
+    "request": (0, error("the request of the scenario: .*"), ""),
+    "package": (0, error(r"package \d+ of the scenario: .*"), ""),
+    "no solution": (0, error(r"there is no solution(\n .*)*"), ""),
+    "a": (0, INSTALL, ""),
+    "a b": (0, f"({INSTALL}){{2}}", ""),
+    "many": (0, f"({INSTALL})+{ANYTHING}", ""),
+    "a long error": (0, rf"Error: apt_solver\nMessage: there is no solution\n requested: {ANYTHING}", ""),
+    "unread": (1, "", LINE),
+    "unwritten": (1, "", LINE),
+}
 
 
 @dataclass(frozen=True)
@@ -77,10 +105,13 @@ PROGRAMS = {
     "clause_store": Kind("script", SCRIPTS),
     "clause_store_dialog": Kind("script", SCRIPTS),
     "pick_versions": Kind("index", PICK_VERSIONS, has_files=True),
+    "json": Kind("index", JSON, True, words=("--json",), crate="pick_versions"),
     "dot": Kind("index", PICK_VERSIONS, True, words=("--dot", "/dev/null"), crate="pick_versions"),
+    "certificate": Kind("index", PICK_VERSIONS, True, words=("--certificate", "/dev/null"), crate="pick_versions"),
     "full": Kind("index", FULL, True, words=("--dot", "/dev/full"), crate="pick_versions"),
     "pick": Kind("index", PICK, has_files=True, has_input=False),
     "rooms": Kind("index", ROOMS),
+    "apt_solver": Kind("scenario", SOLVER),
 }
 FILES = ("directory", "missing", "no name", "unreadable", "failing", "odd", "odd missing", "no text")
 STREAMS = ("directory input", "closed input")

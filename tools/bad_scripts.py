@@ -31,6 +31,7 @@ NAMES_PROGRAM = """
 reference-model/compare 0 0 {}
 reference-model/saturations 0 0 {}
 reference-model/picks 1 1 {}
+reference-model/objects 1 1 {}
 bench/hard --program {} holes
 bench/ecosystem --program {} small
 bench/debian/run --packages {packages} {}
@@ -53,6 +54,7 @@ NAMES_NOTHING = """
 reference-model/compare 0 {}
 reference-model/saturations {} 0
 reference-model/picks {} 1
+reference-model/objects {} 1
 reference-model/write {}
 bench/debian/agree {} 1
 bench/hard {}
@@ -104,6 +106,7 @@ tools/embed {binary}
 tools/embed {missing} 7th
 tools/embed {missing} picking
 tools/embed --store
+tools/embed --picking --store {missing}
 tools/release
 """
 # Words that no script takes.

@@ -64,8 +64,8 @@ fn answer_one(
     }
 }
 
-/// The number of the first line.
-fn first_number(lines: &[Line<'_>]) -> u64
+/// The number of the first line, and 1 if there is none.
+pub fn first_number(lines: &[Line<'_>]) -> u64
     ensures { result ≡ first_number (map plain_line lines.now) }
 {
     match lines {

@@ -12,7 +12,8 @@
 //! [`answer_with_notes`] also notes version sets that no version is in. [`explain_with_notes`] does too, and its answer
 //! says why each version is picked, or reports why there is no solution (`specs/Explained`); [`append_graph`] shows
 //! that as a graph (`specs/Shown`). [`answer_all`] prints the answers of all indexes of an input, in turn
-//! (`specs/Printed`). Crates that write answers in other forms use [`write_reason`] and its parts.
+//! (`specs/Printed`). Crates that write answers in other forms use [`write_reason`] and its parts, [`words_of`] and
+//! [`first_number`].
 #![tactic(auto)]
 
 mod answering;
@@ -36,9 +37,10 @@ pub use answering::Answering;
 pub use explained::explain_with_notes;
 pub use graph::append_graph;
 pub use in_turn::print_in_turn;
-pub use index_answer::{AnswerText, answer, answer_text, answer_with_notes};
+pub use index_answer::{AnswerText, answer, answer_text, answer_with_notes, first_number};
 pub use input_answers::answer_all;
 pub use outcome::Outcome;
 pub use print_fault::PrintFault;
 pub use printer::Printer;
 pub use reasons::{write_name, write_reason, write_set, write_solvable};
+pub use refusal::words_of;

@@ -43,6 +43,18 @@ impl<W: Sink> Printer<W> {
         self.is_first = false;
         write_bytes(answered.text.as_bytes(), &mut self.writer)
     }
+
+    /// Ends the last line, if something is printed: for answers that are lines without their ends.
+    pub fn end_line(&mut self) -> io::Result<()>
+        ensures ok { OnOk result (Appends (W.contents self.old.writer) (W.contents self.new.writer)
+            (gap self.old.is_first)) }
+        ensures failed { OnErr result (TakesSome (W.contents self.old.writer) (gap self.old.is_first)
+            (W.contents self.new.writer)) }
+    {
+        let end = gap(self.is_first);
+        write_bytes(end.as_bytes(), &mut self.writer)?;
+        self.writer.flush()
+    }
 }
 
 /// What is before an answer.

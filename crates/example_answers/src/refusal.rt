@@ -5,7 +5,7 @@ ghost use Rattle.example_answers.specs.Refusals.{words_of};
 use resolvo_ids::StoreError;
 
 /// What a refusal is called. Its `Display` says the same, but nothing is proved of that.
-pub(crate) fn words_of(refused: StoreError) -> &'static str
+pub fn words_of(refused: StoreError) -> &'static str
     ensures { result.now ≡ words_of refused }
 {
     match refused {

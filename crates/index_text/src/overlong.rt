@@ -17,8 +17,7 @@ pub(crate) fn is_overlong(said: &Statement<'_>) -> bool
     surplus_length(said.rest, MOST_WORDS - 1).is_some()
 }
 
-/// How many bytes there are from the first word on that is one too many, where so many words may stand; none if there
-/// is no such word.
+/// The length of what follows the `most` first words, from its first word on. None if no more words follow.
 #[tactic(auto, using(crate::proofs::OverlongLemmas::passing))]
 pub(crate) fn surplus_length(words: &[u8], most: usize) -> Option<usize>
     ensures some { is_some result ≡ nat_lt most (length (words_of words.now)) }

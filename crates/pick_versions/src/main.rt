@@ -5,8 +5,8 @@
 //! picked; or `none` if there is no solution, and below it why, a line for each thing that is needed or limited there.
 //! If it gives up, or a line is unreadable, it says so, and goes on with the next index. A file that can't be read is
 //! named on standard error. The exit status is that of the worst index: [`Outcome`] has the numbers. With `--why` it
-//! also says why each version is picked, and reports why there is no solution. Other flags ask for records of indexes
-//! without a solution, in files.
+//! also says why each version is picked, and reports why there is no solution; with `--json` an answer is an object of
+//! JSON, on a line (`example_json`). Other flags ask for records of indexes without a solution, in files.
 #![tactic(auto)]
 
 mod options;
@@ -20,6 +20,7 @@ ghost use Rattle.example_answers.specs.Status.{status_of};
 
 use anyhow::{Result, anyhow};
 use example_answers::{Outcome, PrintFault};
+use example_json::JsonAnswers;
 use options::Options;
 use output::Output;
 use remarks::{Explaining, Remarking};
@@ -110,7 +111,7 @@ fn answer_inputs(
             }
         }
     }
-    output.end(rt)?;
+    output.end(rt, options)?;
     Ok(worst)
 }
 
@@ -124,7 +125,10 @@ fn answer_input<W: Write>(
 ) -> Result<Outcome> {
     let steps = options.steps;
     let remarking = Remarking::new(rt, steps, input.name);
-    let printed = if options.why {
+    let printed = if options.json {
+        let answers = JsonAnswers::new(input.name, steps);
+        output.print(alloc, input.bytes, answers, steps)
+    } else if options.why {
         output.print(alloc, input.bytes, Explaining(remarking), steps)
     } else {
         output.print(alloc, input.bytes, remarking, steps)

@@ -1,7 +1,7 @@
 //! What the program writes: answers on standard output, and records to files.
 use crate::options::Options;
 use crate::records::{Recording, Records};
-use anyhow::Result;
+use anyhow::{Result, anyhow};
 use example_answers::{Answering, Outcome, PrintFault, Printer, print_in_turn};
 use std::alloc::Global;
 use std::io::Write;
@@ -39,8 +39,13 @@ impl<'o, W: Write> Output<'o, W> {
         print_in_turn(alloc, input, &mut recording, &mut self.printer)
     }
 
-    /// Writes the files.
-    pub fn end(&mut self, rt: &impl Files) -> Result<()> {
+    /// Ends the last line of JSON, and writes the files.
+    pub fn end(&mut self, rt: &impl Files, options: &Options<'_>) -> Result<()> {
+        if options.json {
+            if let Err(fault) = self.printer.end_line() {
+                return Err(anyhow!("standard output: {fault}"));
+            }
+        }
         self.records.write(rt)
     }
 }

@@ -1,12 +1,14 @@
 //! What is recorded of indexes without a solution, for files.
-ghost use Rattle.std.specs.Prelude.{◌≡◌, [], IfOk, OnOk, map, string_bytes};
+ghost use Rattle.std.specs.Prelude.{◌≡◌, [], IfOk, OnOk, map, option_map, string_bytes};
 ghost use Rattle.index_text.specs.PlainLines.{plain_line};
 ghost use Rattle.example_answers.specs.Shown.{ShowsLines};
+ghost use Rattle.example_certificates.specs.Certificates.{CertifiesLines};
 ghost use Rattle.pick_versions.specs.Records.{IsAdded, IsRecorded};
 
 use crate::options::Options;
 use anyhow::{Result, anyhow};
 use example_answers::{AnswerText, Answering, Outcome, append_graph};
+use example_certificates::append_certificate;
 use example_index::SmallIndex;
 use index_text::Line;
 use resolvo_pool::{Interner, ProviderFunctions};
@@ -46,22 +48,30 @@ impl<'o> Record<'o> {
 #[derive(Drop)]
 pub struct Records<'o> {
     graphs: Option<Record<'o>>,
+    certificates: Option<Record<'o>>,
 }
 
 impl<'o> Records<'o> {
     /// Nothing yet, of what is asked for.
-    pub fn new(alloc: Global, options: &Options<'o>) -> Self {
+    pub fn new(alloc: Global, options: &Options<'o>) -> Self
+        ensures graphs { option_map (λ kept. kept.file) result.graphs ≡ options.now.dot }
+        ensures certificates { option_map (λ kept. kept.file) result.certificates ≡ options.now.certificate }
+    {
         Records {
             graphs: options.dot.map(|file| Record::new(alloc, file)),
+            certificates: options.certificate.map(|file| Record::new(alloc, file)),
         }
     }
 
     /// Writes the files.
     pub fn write(&self, rt: &impl Files) -> Result<()> {
-        match &self.graphs {
-            Some(graphs) => graphs.write(rt),
-            None => Ok(()),
+        if let Some(graphs) = &self.graphs {
+            graphs.write(rt)?;
         }
+        if let Some(certificates) = &self.certificates {
+            certificates.write(rt)?;
+        }
+        Ok(())
     }
 
     /// Records why the index of these lines has no solution.
@@ -69,11 +79,17 @@ impl<'o> Records<'o> {
         ensures graphs { OnOk result (IsAdded self.old.graphs self.new.graphs (ShowsLines
             ⟦<SmallIndex as ProviderFunctions>⟧.functions ⟦<SmallIndex as Interner>⟧.texts
             (map plain_line lines.now))) }
+        ensures certificates { OnOk result (IsAdded self.old.certificates self.new.certificates (CertifiesLines
+            ⟦<SmallIndex as ProviderFunctions>⟧.functions ⟦<SmallIndex as Interner>⟧.texts
+            (map plain_line lines.now))) }
     {
-        match &mut self.graphs {
-            Some(graphs) => append_graph(alloc, lines, steps, &mut graphs.text),
-            None => Ok(()),
+        if let Some(graphs) = &mut self.graphs {
+            append_graph(alloc, lines, steps, &mut graphs.text)?;
         }
+        if let Some(certificates) = &mut self.certificates {
+            append_certificate(alloc, lines, steps, &mut certificates.text)?;
+        }
+        Ok(())
     }
 }
 
@@ -95,6 +111,10 @@ impl<A: Answering> Answering for Recording<'_, '_, A> {
         ensures graphs { IfOk result (λ answered. IsRecorded answered.outcome self.old.records.now.graphs
             self.new.records.now.graphs (ShowsLines ⟦<SmallIndex as ProviderFunctions>⟧.functions
             ⟦<SmallIndex as Interner>⟧.texts (map plain_line lines.now))) }
+        ensures certificates { IfOk result (λ answered. IsRecorded answered.outcome
+            self.old.records.now.certificates self.new.records.now.certificates (CertifiesLines
+            ⟦<SmallIndex as ProviderFunctions>⟧.functions ⟦<SmallIndex as Interner>⟧.texts
+            (map plain_line lines.now))) }
     {
         let answered = self.answering.answer(alloc, lines)?;
         if answered.outcome == Outcome::NoSolution {

@@ -10,7 +10,7 @@ use std::alloc::Allocator;
 pub struct Line<N, S, A: Allocator> {
     /// The first reason.
     pub reason: Reason<N, S>,
-    /// The versions of which it is said, the first reason's before the others. Empty if it isn't said of versions.
+    /// The versions that the line names. The first reason's comes first. Empty if the line names none.
     pub versions: Vec<S, A>,
 }
 

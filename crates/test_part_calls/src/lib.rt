@@ -32,7 +32,7 @@ pub use any_set::{SetAnswers, set_answers};
 pub use arena_callers::{added, count, pairs, replace, total};
 pub use candidate_laws::candidates_divide;
 pub use clause_laws::{first_watches_are_two, literals_of_required};
-pub use computed::examples;
+pub use computed::{examples, versions_are_named};
 pub use each_kind::{Conditions, Names, Solvables, Strings, Unions, VersionSets};
 pub use few_names::{names_are_few, sparse_names_are_few};
 pub use interning::{Twice, interned_twice};

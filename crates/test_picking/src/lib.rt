@@ -1,15 +1,11 @@
-//! Tests of what a search asks of its provider, of what stops it, of what it grants of wishes, and of graphs of its
-//! reasons.
+//! Tests of what a search asks of its provider, of what stops it, and of what it grants of wishes.
 //!
 //! A provider that is watched notes whose dependencies are queried, and counts the questions whether to stop
 //! (`watched`). A search over an index tells what it noted (`seen`). `queries` tests that a search queries no more than
 //! it has to, `stopping` that a provider, or a number of steps, ends it, and `wishes` which wishes are granted. The
-//! indexes are in `indexes`. `graphs` tests what the reasons of a search are as a graph: the program
-//! `test_reports` prints them as text, and has no tests, since with these it would be proved twice.
+//! indexes are in `indexes`.
 #![tactic(auto)]
 
-#[cfg(test)]
-mod graphs;
 #[cfg(test)]
 mod indexes;
 #[cfg(test)]

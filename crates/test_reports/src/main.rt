@@ -1,12 +1,14 @@
-//! A test: the reports of indexes without a solution.
+//! A test: what is said of indexes.
 //!
-//! Each index of standard input is answered by `picking`, and its report is printed. docs/CONFLICTS has the same
-//! indexes and reports, down to the line `# Not in docs/CONFLICTS`.
+//! Of each index of standard input a block is printed: the report of why there is no solution, how much of the request
+//! to keep, notes, the answer with explanations, and a graph; or what was expected in an unreadable line. Those of
+//! docs/CONFLICTS are among them.
 #![tactic(auto)]
 
-mod reporting;
+mod reasons;
+mod saying;
 
-use reporting::write_reports;
+use saying::write_indexes;
 use std::io::Read;
 use std::test::Fail;
 
@@ -15,7 +17,7 @@ fn main(rt: HostRuntime) -> Result<(), Fail> {
     let mut bytes = Vec::new(alloc);
     let _ = rt.reader().read_to_end(&mut bytes);
     let mut text = String::new(alloc);
-    write_reports(alloc, &bytes, &mut text)?;
+    write_indexes(alloc, &bytes, &mut text)?;
     print!(rt; "{text}")?;
     Ok(())
 }

@@ -1,0 +1,4 @@
+pub mod ConditionLemmas
+pub mod GatherLemmas
+pub mod PlainLemmas
+pub mod ShownLemmas

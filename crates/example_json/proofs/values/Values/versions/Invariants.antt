@@ -1,0 +1,9 @@
+use Rattle.std.proofs.Common.{◌≡◌, ◌++◌, map, drop}
+use Rattle.serde_json.specs.View.{view}
+use Rattle.example_json.specs.Values.{version_data}
+use Rattle.example_json.proofs.values.Values.versions.Given as goal
+
+abbrev pub invariant-loop-solvable : goal.invariant-loop-solvable
+invariant-loop-solvable g l =
+    let value = version_data (g.I.Interner.universe l.self.interner.now) (g.I.Interner.texts l.self.interner.now) in
+    map view l.values.items ++ map value (drop l.solvable-index l.solvables) ≡ map value l.solvables

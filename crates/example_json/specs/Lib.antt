@@ -1,0 +1,4 @@
+pub mod Answers
+pub mod Objects
+pub mod Reasons
+pub mod Values
