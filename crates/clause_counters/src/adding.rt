@@ -21,7 +21,7 @@ use decisions::{DecisionMap, Literal};
 use std::alloc::Allocator;
 use typed_ids::{DenseIndex, StoreError};
 
-/// Makes the table of literals reach as far as those of the list, and no further.
+/// Grows the table of literals as far as the literals of the list need, and no further. It never shrinks.
 pub(crate) fn pad<A: Allocator + Copy>(
     literals: &mut Vec<Standing, A>,
     list: &[Literal],
@@ -59,7 +59,7 @@ fn end_of(list: &[Literal], len: usize) -> usize
     end
 }
 
-/// Whether a literal that gets a place is false: as told if it stands nowhere yet, and as it was if it does.
+/// The flag of a literal that gets a place: the new one if it stands in no group yet, otherwise the one that it has.
 fn flag_of(at: Standing, new_flag: bool) -> bool
     ensures { result ≡ initial_flag at new_flag }
 {
@@ -88,8 +88,8 @@ fn is_newest(places: &[Link], at: Standing, group: u32) -> bool
     at.groups != 0 && places[(at.groups - 1) as usize].value == group
 }
 
-/// Gives the literal at the index a place of the group, unless its newest place is one. Answers whether it got one and
-/// isn't false.
+/// Gives the literal at the index a place in the group, unless its newest place is in this group. Answers whether it
+/// got a place and isn't false.
 fn place<A: Allocator + Copy>(
     literals: &mut Vec<Standing, A>,
     places: &mut Vec<Link, A>,
@@ -123,8 +123,8 @@ fn place<A: Allocator + Copy>(
     !is_false
 }
 
-/// Gives each literal of the list one place of the group, which is new. Answers how many of the places hold one that
-/// isn't false.
+/// Gives each literal of the list one place in the group, which has no places yet. Answers how many of the new places
+/// hold a literal that isn't false.
 pub(crate) fn place_literals<A: Allocator + Copy>(
     literals: &mut Vec<Standing, A>,
     places: &mut Vec<Link, A>,
@@ -158,7 +158,7 @@ pub(crate) fn place_literals<A: Allocator + Copy>(
     left
 }
 
-/// Makes the clause a member of each group of the list.
+/// Makes the clause a member of each group of the list, once for each time that the list has the group.
 pub(crate) fn join_groups<A: Allocator + Copy>(
     groups: &mut Vec<Group, A>,
     members: &mut Vec<Link, A>,
@@ -208,7 +208,7 @@ fn join<A: Allocator + Copy>(
     groups[group as usize].clauses = members.len() as u32;
 }
 
-/// How many of the groups aren't false.
+/// How many groups of the list are open here, that is, aren't false.
 pub(crate) fn count_open(groups: &[Group], list: &[u32]) -> u8
     requires known { All (λ g. g < length groups.now) list.now }
     requires few { length list.now ≤ 3 }

@@ -1,4 +1,4 @@
-//! Walks over the groups in which a literal stands.
+//! Changes the counters of all groups in which a literal stands.
 ghost use Rattle.std.specs.Prelude.{◌≡◌, ◌<◌, ◌≤◌, ◌+◌, ◌^◌, ℕ, length, map, vec_len};
 ghost use Rattle.clause_counters.specs.Links.{IsLinked, numbers_at, count};
 ghost use Rattle.clause_counters.specs.Counted.{CountsMembers, group_at, clause_lists};
@@ -8,7 +8,7 @@ use crate::groups::{Group, lower_group, raise_group};
 use crate::links::Link;
 use std::alloc::Allocator;
 
-/// Of each group of the list one place more is false: a place's literal became false.
+/// A literal became false: lowers the counter of each group in the literal's list, by one each time that it is listed.
 pub(crate) fn lower_groups<A: Allocator + Copy>(
     groups: &mut Vec<Group, A>,
     members: &[Link],
@@ -35,7 +35,8 @@ pub(crate) fn lower_groups<A: Allocator + Copy>(
     }
 }
 
-/// Of each group of the list one place fewer is false: a place's literal became undecided.
+/// A literal became undecided: raises the counter of each group in the literal's list, by one each time that it is
+/// listed.
 pub(crate) fn raise_groups<A: Allocator + Copy>(
     groups: &mut Vec<Group, A>,
     members: &[Link],

@@ -1,4 +1,4 @@
-//! Disjunctions, under which a requirement is asked for.
+//! Disjunctions: a requires clause under one counts only if all of its literals are false.
 use decisions::Literal;
 use std::alloc::Allocator;
 use typed_ids::ConditionId;

@@ -12,7 +12,7 @@ use crate::words::names_of;
 use debian_scenario::Package;
 use std::alloc::{AllocError, Global};
 
-/// Whether these packages may be there together, may each be picked, and are what is asked for.
+/// Whether these packages may be there together, may each be picked, and have what is requested.
 pub fn is_answer<'t>(
     alloc: Global,
     rules: &Rules<'_, 't>,

@@ -1,8 +1,7 @@
 -- How the digits of two numbers compare.
-use Rattle.std.proofs.Common.{rules, ◌≡◌, ℕ, suc, ◌+◌, ◌*◌, ◌<◌, ◌≤◌, ◌==◌, List, [], ◌∷◌, length, drop, take}
-use Rattle.std.proofs.Common.{slice_index, refl, sym, arith, inl, inr, true, false}
+use Rattle.std.proofs.Common.{rules, ◌≡◌, ℕ, suc, ◌+◌, ◌*◌, ◌<◌, ◌≤◌, ◌==◌, List, [], ◌∷◌, length, take}
+use Rattle.std.proofs.Common.{refl, sym, arith, inl, inr, true, false}
 use Rattle.std.proofs.lemmas.Bool.{and_parts, cases_Bool, cases_order, eqb-false, eqb-true}
-use Rattle.std.proofs.lemmas.List.{drop_more}
 use Rattle.std.proofs.lemmas.Str.{digit_value_digit}
 use Rattle.std.specs.Char.{digit_value, is_ascii_digit}
 use Rattle.std.specs.Cmp.{nat_cmp_is}
@@ -13,16 +12,6 @@ use Rattle.std.specs.Ordering.{nat_cmp, ordering_then}
 use Rattle.std.specs.Str.Parse.{digits_value, digits_value_after}
 use Rattle.std.specs.declared.cmp.Ordering.TheVariants.{Less, Equal, Greater}
 use Rattle.debian_versions.specs.Steps.{strip_zeros}
-
-pub strip-step : (xs : List ℕ) (i : ℕ) → i < length xs → (slice_index xs i == 48) ≡ true → strip_zeros (drop i xs) ≡
-    strip_zeros (drop (i + 1) xs)
-unfolding strip_zeros
-strip-step xs i lt d = rw (drop_more xs i 0 lt, d) refl
-
-pub strip-stop : (xs : List ℕ) (i : ℕ) → i < length xs → (slice_index xs i == 48) ≡ false → strip_zeros (drop i xs)
-    ≡ drop i xs
-unfolding strip_zeros
-strip-stop xs i lt d = rw (drop_more xs i 0 lt, d) refl
 
 pub digit-range : (c : ℕ) → is_ascii_digit c ≡ true → IsInRange 48 57 c
 digit-range c d = search rules

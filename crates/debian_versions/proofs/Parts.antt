@@ -106,14 +106,6 @@ keys-number (c ∷ xs) e = elim (cases_Bool (is_ascii_digit c)) [
   | inr n ↦ absurd (rank-not_end c (rw n at e))
 ]
 
--- and its digits are some where the text is not empty
-pub number-some : (x : List ℕ) → front_rank x ≡ 1 → 0 < length x → 0 < prefix_len is_ascii_digit x
-number-some [] e lt = absurd (omega arith)
-number-some (c ∷ xs) e lt = elim (cases_Bool (is_ascii_digit c)) [
-  | inl d ↦ rw d (omega arith)
-  | inr n ↦ absurd (rank-not_end c (rw n at e))
-]
-
 -- no digit stands behind the digits
 pub number-stop : (x : List ℕ) → prefix_len is_ascii_digit (drop (prefix_len is_ascii_digit x) x) ≡ 0
 number-stop [] = refl

@@ -34,11 +34,6 @@ pub refused_unreadable : (said : Result IndexText ℕ) → None ≡ unreadable_i
 refused_unreadable (Ok meant) = refl
 refused_unreadable (Err number) = refl
 
--- the number of an unreadable line
-pub line_unreadable : (said : Result IndexText ℕ) (number : ℕ) → said ≡ Err number
-    → Some number ≡ unreadable_in said Unreadable
-line_unreadable said number is = sym (ap (λ (s : Result IndexText ℕ). unreadable_in s Unreadable) is)
-
 module _ {N S : Type 0} (functions : SmallIndex → Provider N S) (texts : SmallIndex → Texts N S) where
   -- what a search answers to an index
   pub index_answered : (index : SmallIndex) (outcome : Outcome) (text : List ℕ)

@@ -87,7 +87,7 @@ ExplainsAnswer A p texts names requested GaveUp text = IsAnswer p texts requeste
 ExplainsAnswer A p texts names requested Unreadable text = ⊥
 ExplainsAnswer A p texts names requested Failed text = ⊥
 
--- what each outcome says of the text that answers what is said: an index, or the number of an unreadable line
+-- what each outcome says of the text of an answer; `said` is an index, or the number of an unreadable line
 module _ {S : Type 0} (functions : SmallIndex → Provider ℕ S) (texts : SmallIndex → Texts ℕ S) where
   abbrev pub ExplainsOf : Result IndexText ℕ → Outcome → List ℕ → Type 0
   ExplainsOf said Picked text =
@@ -99,7 +99,7 @@ module _ {S : Type 0} (functions : SmallIndex → Provider ℕ S) (texts : Small
   ExplainsOf said Unreadable text = IsAnswerOf functions texts said Unreadable text
   ExplainsOf said Failed text = ⊥
 
-  -- the same of an index that was read, whatever it is of
+  -- the same of an index that was read, for each text of an index that it may stand for
   abbrev pub ExplainsIndex : SmallIndex → Outcome → List ℕ → Type 0
   ExplainsIndex index outcome text = (meant : IndexText) → IsIndex index meant → ExplainsOf (Ok meant) outcome text
 

@@ -14,8 +14,8 @@ use index_text::Line;
 use resolvo_pool::{Interner, ProviderFunctions};
 use std::alloc::{AllocError, Global};
 
-/// Answers the index of these lines, in no more steps than these: says why each version is picked, or reports why there
-/// is no solution. If there is an index, it appends notes on it, as `answer_with_notes` does.
+/// Answers the index of these lines, in at most `steps` steps: says why each version is picked, or reports why there is
+/// no solution. If there is an index, it appends notes on it, as `answer_with_notes` does.
 pub fn explain_with_notes(
     alloc: Global,
     lines: &[Line<'_>],
@@ -28,7 +28,7 @@ pub fn explain_with_notes(
     ensures unreadable { IfOk result (λ answered. answered.unreadable ≡
         unreadable_in (index_of (map plain_line lines.now)) answered.outcome) }
     ensures notes { IsContinued notes.old notes.new }
-    ensures unread { IsErr (index_of (map plain_line lines.now)) → IsSameText notes.old notes.new }
+    ensures no_new_notes { IsErr (index_of (map plain_line lines.now)) → IsSameText notes.old notes.new }
 {
     match example_index::read(alloc, lines) {
         Ok(index) => {

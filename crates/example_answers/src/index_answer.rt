@@ -102,7 +102,7 @@ pub fn answer_with_notes(
     ensures unreadable { IfOk result (λ answered. answered.unreadable ≡
         unreadable_in (index_of (map plain_line lines.now)) answered.outcome) }
     ensures notes { IsContinued notes.old notes.new }
-    ensures unread { IsErr (index_of (map plain_line lines.now)) → IsSameText notes.old notes.new }
+    ensures no_new_notes { IsErr (index_of (map plain_line lines.now)) → IsSameText notes.old notes.new }
 {
     match example_index::read(alloc, lines) {
         Ok(index) => {

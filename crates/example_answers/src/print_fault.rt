@@ -12,12 +12,12 @@ pub enum PrintFault {
     /// Memory was refused for the lines of an input, or for the text of an answer.
     #[error(transparent)]
     Memory(AllocError),
-    /// A write failed.
+    /// A write or a flush failed.
     #[error(transparent)]
     Device(io::Error),
 }
 
-/// So `?` passes on what the allocator refused.
+/// So `?` passes on a refusal of the allocator.
 impl From<AllocError> for PrintFault {
     ghost from_gives = { λ refused fault. fault ≡ Memory refused };
 

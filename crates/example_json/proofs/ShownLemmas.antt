@@ -16,7 +16,7 @@ use Rattle.example_index.specs.declared.index.SmallIndex.{SmallIndex}
 use Rattle.example_answers.specs.Faults.{unreadable_in}
 use Rattle.example_answers.specs.declared.outcome.Outcome.{Outcome}
 use Rattle.example_answers.specs.declared.outcome.Outcome.TheVariants.{GaveUp, Unreadable}
-use Rattle.example_answers.proofs.IndexLemmas.{IsSaid, line_unreadable, read_fault, refused_unreadable}
+use Rattle.example_answers.proofs.IndexLemmas.{IsSaid, read_fault, refused_unreadable}
 use Rattle.example_json.specs.Answers.{IndexIsShown, ShowsAnswer, ShowsOf, ShowsRefusal, ShowsUnreadable}
 use Rattle.example_json.specs.Answers.{empty_sets, notes_data}
 
@@ -88,6 +88,10 @@ module _ {N S : Type 0} (functions : SmallIndex → Provider N S) (texts : Small
         subst (λ n. ShowsOf input n functions texts given said outcome text) same (refused_here line said shown)
 
 -- the number of the line that is unreadable
+line_unreadable : (said : Result IndexText ℕ) (number : ℕ) → said ≡ Err number
+    → Some number ≡ unreadable_in said Unreadable
+line_unreadable said number is = sym (ap (λ (s : Result IndexText ℕ). unreadable_in s Unreadable) is)
+
 pub unreadable_told : (said : Result IndexText ℕ) (number : ℕ) (told : Option ℕ) (outcome : Outcome)
     → AreRead IsSaid said (Err (Fault.Unreadable number)) → told ≡ Some number → outcome ≡ Unreadable
     → told ≡ unreadable_in said outcome

@@ -22,7 +22,7 @@ use resolvo_pool::{ConditionalRequirement, DependencyProvider, Interner, Provide
 use serde_json::{Value, json, push};
 use std::alloc::{AllocError, Allocator, Global};
 
-/// The search for the best solution, whose answers are objects of JSON. Each text is a line without its end.
+/// The search for the best solution, whose answers are JSON objects. Each text is one line without its line feed.
 #[derive(Drop)]
 pub struct JsonAnswers<'n> {
     /// What the input is called.
@@ -46,8 +46,8 @@ impl Answering for JsonAnswers<'_> {
     }
 }
 
-/// Answers the index of these lines of the input of this name, in no more steps than these: by an object of JSON, on a
-/// line without its end.
+/// Answers the index of these lines of the input of this name, in at most `steps` steps: a JSON object on one line,
+/// without its line feed.
 pub fn answer_as_json(
     alloc: Global,
     lines: &[Line<'_>],

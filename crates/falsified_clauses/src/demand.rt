@@ -8,8 +8,8 @@ use typed_ids::{DisjunctionId, VariableId};
 pub struct Demand {
     /// The variable of what asks.
     pub parent: VariableId,
-    /// What is asked for.
+    /// What is required.
     pub requirement: Requirement,
-    /// The literals of which one is true when nothing is asked for.
+    /// The literals of which one is true if nothing is required.
     pub condition: Option<DisjunctionId>,
 }

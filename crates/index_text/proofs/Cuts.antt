@@ -9,21 +9,6 @@ use Rattle.std.proofs.lemmas.List.Splits.{slice_split-cons_yes, slice_split-cons
 use Rattle.index_text.specs.Entries.{starts, put_front}
 
 module _ {X : Type 0} (begins : X → Bool) where
-  more_parts : (front : List X) (x : X) (part : List X) (parts : List (List X)) (b : Bool) → begins x ≡ false
-      → put_front begins front (if b then (x ∷ []) ∷ part ∷ parts else (x ∷ part) ∷ parts)
-      ≡ (if b then (front ++ x ∷ []) ∷ part ∷ parts else ((front ++ x ∷ []) ++ part) ∷ parts)
-  more_parts front x part parts true h =
-      ap (λ b. if b then front ∷ (x ∷ []) ∷ part ∷ parts else (front ++ x ∷ []) ∷ part ∷ parts) h
-  more_parts front x part parts false h =
-      ap (λ b. if b then front ∷ (x ∷ part) ∷ parts else (front ++ x ∷ part) ∷ parts) h
-      ∙ ap (λ whole. whole ∷ parts) (sym (append_assoc front (x ∷ []) part))
-
-  -- an element that begins no part lies behind what is put in front of it
-  pub put_front-more : (front : List X) (x : X) (parts : List (List X)) → begins x ≡ false
-      → put_front begins front (put_front begins (x ∷ []) parts) ≡ put_front begins (front ++ x ∷ []) parts
-  put_front-more front x [] h = ap (λ b. if b then front ∷ (x ∷ []) ∷ [] else (front ++ x ∷ []) ∷ []) h
-  put_front-more front x (part ∷ parts) h = more_parts front x part parts (starts begins part) h
-
   starting_parts : (front : List X) (x : X) (part : List X) (parts : List (List X)) (b : Bool) → begins x ≡ true
       → put_front begins front (if b then (x ∷ []) ∷ part ∷ parts else (x ∷ part) ∷ parts)
       ≡ front ∷ (if b then (x ∷ []) ∷ part ∷ parts else (x ∷ part) ∷ parts)

@@ -4,12 +4,11 @@ use Rattle.std.proofs.Common.{refl, ap, sym}
 use Rattle.std.specs.Prelude.{if◌then◌else◌, ◌==◌, ⊤}
 use Rattle.std.specs.List.{list_all}
 use Rattle.std.proofs.lemmas.List.Folds.{list_all-append}
-use Rattle.index_text.specs.Indexes.{NumberedWords, words_in, is_skipped, numbered}
-use Rattle.index_text.specs.PlainLines.{line_meant}
+use Rattle.index_text.specs.Indexes.{NumberedWords, words_in}
 use Rattle.index_text.specs.Printed.{is_said_printed, plain_said}
 use Rattle.script_text.proofs.Printing.{both}
 use Rattle.script_text.specs.Lines.{is_printed, IsPrinted}
-use Rattle.script_text.specs.Statements.{MeansWords, IsSkipped}
+use Rattle.script_text.specs.Statements.{MeansWords}
 use Rattle.script_text.specs.Words.{words, words_from, begun_word}
 use Rattle.script_text.specs.declared.statement.Line.{Line as TextLine}
 use Rattle.script_text.specs.declared.statement.Line.TheVariants.{Skipped, Unreadable, Says}
@@ -53,10 +52,6 @@ keyword_printed line Skipped h = (cc)
 keyword_printed line Unreadable h = (cc)
 keyword_printed line (Says s) h = (both _ _ (sym (ap are_printed h.2) ∙ words_printed [] line refl h.0)).0
 
--- what is read of a line are its words
-pub unreadable_words : (line : List ℕ) → list_all is_printed line ≡ false → words_in line ≡ None
-unreadable_words line h = ap (λ p. if p then Some (words line) else None) h
-
 pub said_words : (line : List ℕ) (s : Statement) → MeansWords line (Says s) → words_in line ≡ plain_said (Some s)
 said_words line s h = ap (λ p. if p then Some (words line) else None) h.0 ∙ ap Some h.2
 
@@ -69,30 +64,3 @@ said_printed line s means rest = and_true _ _ (keyword_printed line (Says s) mea
 abbrev pub before : Option NumberedWords → List NumberedWords → List NumberedWords
 before None rest = rest
 before (Some line) rest = line ∷ rest
-
-skipped_words : (ws : List (List ℕ)) → IsSkipped ws → is_skipped (Some ws) ≡ true
-skipped_words [] h = refl
-skipped_words (w ∷ ws) h = h
-
-module _ (n : ℕ) (line : List ℕ) (others : List (List ℕ)) where
-  numbered_by : (ws : Option (List (List ℕ))) → words_in line ≡ ws
-      → numbered n (line ∷ others) ≡ (if is_skipped ws then numbered (n + 1) others
-      else record { number = n; words = ws } ∷ numbered (n + 1) others)
-  numbered_by ws h = ap (λ (w : Option (List (List ℕ))). if is_skipped w then numbered (n + 1) others
-      else record { number = n; words = w } ∷ numbered (n + 1) others) h
-
-  -- what is read of a line is what the line is in the text
-  pub numbered_first : (said : TextLine Statement) → MeansWords line said
-      → numbered n (line ∷ others) ≡ before (line_meant n said) (numbered (n + 1) others)
-  numbered_first Unreadable h =
-      numbered_by None (ap (λ p. if p then Some (words line) else None) h)
-  numbered_first Skipped h =
-      numbered_by (Some (words line)) (ap (λ p. if p then Some (words line) else None) h.0)
-      ∙ ap (λ s. if s then numbered (n + 1) others else record { number = n; words = Some (words line) } ∷ numbered
-      (n + 1) others)
-      (skipped_words (words line) h.1)
-  numbered_first (Says s) h =
-      numbered_by (Some (s.keyword.now ∷ words s.rest.now))
-      (ap (λ p. if p then Some (words line) else None) h.0 ∙ ap Some h.2)
-      ∙ ap (λ b. if b then numbered (n + 1) others
-      else record { number = n; words = Some (s.keyword.now ∷ words s.rest.now) } ∷ numbered (n + 1) others) h.1

@@ -10,7 +10,7 @@ use Rattle.std.proofs.lemmas.List.Splits.{length-slice_split}
 use Rattle.index_text.specs.Entries.{is_entry, cut, put_front, condition_in_parts}
 use Rattle.index_text.specs.Formats.{VersionFormat}
 use Rattle.index_text.specs.Sets.{texts, parts_behind}
-use Rattle.index_text.proofs.Cuts.{onto_front, onto_front-more, onto_front-ends, onto_front-last, put_front-more}
+use Rattle.index_text.proofs.Cuts.{onto_front, onto_front-more, onto_front-ends, onto_front-last}
 use Rattle.index_text.proofs.Cuts.{put_front-starts}
 
 abbrev pub Word : Type 0
@@ -46,16 +46,6 @@ module _ (words : List Word) (i : ℕ) (d : Word) (here : i < length words) wher
         so_far ∙ at_drop_more (λ rest. onto_front (texts (take i words))
         (slice_split (bytes_eq between) (texts rest))) words i d here
         ∙ onto_front-ends (bytes_eq between) (texts (take i words)) word (texts (drop (i + 1) words)) h
-
-  pub entry_goes_on : is_entry (slice_index_or words i d).now ≡ false
-      → cut is_entry (texts words) ≡ put_front is_entry (texts (take i words)) (cut is_entry (texts (drop i words)))
-      → cut is_entry (texts words) ≡ put_front is_entry (texts (take (i + 1) words))
-      (cut is_entry (texts (drop (i + 1) words)))
-  entry_goes_on h so_far =
-      so_far ∙ at_drop_more (λ rest. put_front is_entry (texts (take i words)) (cut is_entry (texts rest))) words i
-      d here
-      ∙ put_front-more is_entry (texts (take i words)) word (cut is_entry (texts (drop (i + 1) words))) h
-      ∙ ap (λ front. put_front is_entry front (cut is_entry (texts (drop (i + 1) words)))) (sym texts_more)
 
   pub entry_ends : is_entry (slice_index_or words i d).now ≡ true
       → cut is_entry (texts words) ≡ put_front is_entry (texts (take i words)) (cut is_entry (texts (drop i words)))

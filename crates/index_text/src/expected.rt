@@ -1,4 +1,4 @@
-//! What an unreadable line should have.
+//! What was expected where a line became unreadable.
 ghost use Rattle.std.specs.Prelude.{◌≡◌};
 ghost use Rattle.index_text.specs.Expected.{in_format, in_semver};
 ghost use Rattle.index_text.specs.PlainFormats.{plain_format};
@@ -17,11 +17,11 @@ pub enum Expected {
     Version,
     /// The version of the line: a SemVer version.
     SemverVersion,
-    /// What is said of a version: an entry, or why it may not be picked.
+    /// Behind a version: an entry, or a word that says that it may not be picked.
     State,
-    /// The beginning of an entry of a version.
+    /// The first word of an entry, in a version's line.
     Entry,
-    /// The beginning of a need: a request has no other entries.
+    /// The word `needs`: a request has no other entries.
     Need,
     /// The name of a package.
     Name,
@@ -31,22 +31,22 @@ pub enum Expected {
     SemverRange,
     /// A range whose first bound isn't above the second one.
     OrderedRange,
-    /// What goes on behind a set of a union, in the line of a version.
+    /// What may follow a set of a union, in a version's line.
     UnionOrEntry,
     /// The same in a request.
     UnionOrNeed,
-    /// What goes on behind a set of a condition, in the line of a version.
+    /// What may follow a set of a condition, in a version's line.
     ConditionOrEntry,
     /// The same in a request.
     ConditionOrNeed,
     /// The line's end: a line has no more words.
     LineEnd,
-    /// Another version: this one has the line of this number already.
+    /// Another version: the line of this number has this version already.
     DuplicateOf(u64),
 }
 
 impl Expected {
-    /// The same, in this format's words.
+    /// The same expectation, as an index of this format words it.
     pub(crate) fn in_format(self, format: &VersionFormat) -> Expected
         ensures { result ≡ in_format (plain_format format.now) self }
     {
@@ -56,7 +56,7 @@ impl Expected {
         }
     }
 
-    /// The same, where versions are SemVer versions.
+    /// The same expectation, if versions are SemVer versions.
     fn in_semver(self) -> Expected
         ensures { result ≡ in_semver self }
     {

@@ -14,12 +14,12 @@ use semver::Version;
 use std::alloc::{AllocError, Global};
 use std::collections::BTreeSet;
 
-/// How the versions of an index are written. A number stands for each, and numbers are in the order of the versions.
+/// How the versions of an index are written. Each version has a number; a newer version has a higher one.
 #[derive(Drop)]
 pub enum VersionFormat {
     /// As numbers, which stand for themselves.
     Numbers,
-    /// As SemVer versions. For each stands its place among all that are written in the index.
+    /// As SemVer versions. A version's number is its place in the sorted list of all versions in the index.
     Semver(SemverVersions),
 }
 
@@ -38,7 +38,7 @@ impl VersionFormat {
         Ok(VersionFormat::Semver(SemverVersions::new(known.into_iter().collect(alloc)?)))
     }
 
-    /// The number of the version that a word says; none if it says no version, or one that isn't in the index.
+    /// The number of the version that is written as this word; none if it is none, or isn't in the index.
     #[inline(always)]
     pub fn number(&self, alloc: Global, word: &[u8]) -> Result<Option<u32>, AllocError>
         ensures { IfOk result (λ found. found ≡ number_in (plain_format self.now) word.now) }
@@ -101,7 +101,7 @@ fn add_line(alloc: Global, known: &mut BTreeSet<Version>, line: &Line<'_>) -> Re
     Ok(())
 }
 
-/// Adds the versions of a word.
+/// Adds the version that a word is, or those at both ends of a range. A word in any place counts.
 fn add_word(alloc: Global, known: &mut BTreeSet<Version>, word: &[u8]) -> Result<(), AllocError>
     ensures { OnOk result (plain_keys known.new ≡ with_versions (plain_keys known.old) (written_in word.now)) }
 {
@@ -113,7 +113,7 @@ fn add_word(alloc: Global, known: &mut BTreeSet<Version>, word: &[u8]) -> Result
     add_text(alloc, known, high)
 }
 
-/// Adds the version that a text says, if it says one.
+/// Adds the version that is written as this text, if it is one.
 fn add_text(alloc: Global, known: &mut BTreeSet<Version>, text: &[u8]) -> Result<(), AllocError>
     ensures { OnOk result (plain_keys known.new ≡ with_versions (plain_keys known.old) (versions_in (text.now ∷ []))) }
 {

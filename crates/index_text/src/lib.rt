@@ -5,13 +5,13 @@
 //!     a 1 needs b 1..3
 //!     a 2 needs b 2..4 if c 1..2 and d 1..9 needs d 1..9 | e 1..9
 //!     b 2 favored limits c 1..2
-//!     b 3 excluded does not build
+//!     b 3 excluded the build fails
 //!
 //! docs/INDEX.md has the format. A text may have several indexes, each of which begins with a `request` line. [`split`]
 //! finds the lines of each, and a [`Reader`] reads them one by one. [`diagnose`] says why a line is unreadable.
-//! Versions are numbers or SemVer versions ([`VersionFormat`]). This crate has no ids. `example_index` gives them out.
+//! Versions are numbers or SemVer versions ([`VersionFormat`]). Ids are given by `example_index`, not here.
 //!
-//! `specs/` has the whole format: a contract says of each function that it reads just that, and nothing else.
+//! `specs/` has the whole format: each function's contract says that it accepts that format exactly.
 #![tactic(auto)]
 
 mod diagnosis;

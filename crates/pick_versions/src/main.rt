@@ -1,12 +1,12 @@
 //! An example: a program that picks versions, by the search of `picking`.
 //!
 //! It reads indexes from standard input, or from the files that its command line names (`options`), in the format of
-//! `index_text`. For each it prints `request:`, and a solution of what is requested: a line for each version that is
-//! picked; or `none` if there is no solution, and below it why, a line for each thing that is needed or limited there.
+//! `index_text`. For each it prints `request:`, and below it a solution of what is requested, with a line for each
+//! version that is picked. If there is no solution, the lines below `request:` are `none`, and one for each reason.
 //! If it gives up, or a line is unreadable, it says so, and goes on with the next index. A file that can't be read is
-//! named on standard error. The exit status is that of the worst index: [`Outcome`] has the numbers. With `--why` it
-//! also says why each version is picked, and reports why there is no solution; with `--json` an answer is an object of
-//! JSON, on a line (`example_json`). Other flags ask for records of indexes without a solution, in files.
+//! named on standard error. The exit status is the worst outcome's: [`Outcome`] has the numbers. With `--why` it
+//! also says why each version is picked, and reports why there is no solution; with `--json` each answer is a JSON
+//! object on one line (`example_json`). `--dot` and `--certificate` each write a file on indexes without a solution.
 #![tactic(auto)]
 
 mod options;
@@ -54,7 +54,7 @@ fn exit_code(worst: Outcome) -> ExitCode
     ExitCode::from(worst.status())
 }
 
-/// Does what the command line says. The worst outcome.
+/// Does what the command line says. Returns the worst outcome.
 fn obey(rt: &(impl Runtime + AllocGlobal)) -> Result<Outcome> {
     let alloc = rt.alloc();
     let words = std::env::args(rt).map_err(|fault| anyhow!("command line: {fault}"))?;
@@ -65,7 +65,8 @@ fn obey(rt: &(impl Runtime + AllocGlobal)) -> Result<Outcome> {
     }
 }
 
-/// Says why a command line asks for no answers: the help or the version, or the first line of what is wrong with it.
+/// Prints the help or the version, if the command line asks for one; otherwise the first line of its error, to standard
+/// error.
 fn say(rt: &(impl Print + Eprint), alloc: Global, fault: &clap::Error) -> Result<Outcome> {
     if !fault.use_stderr() {
         fault.print(rt)?;
@@ -77,7 +78,7 @@ fn say(rt: &(impl Print + Eprint), alloc: Global, fault: &clap::Error) -> Result
 }
 
 /// Answers what is in the files, or in standard input if there is none. A file that can't be read is named on standard
-/// error, and the next one is answered. The worst outcome.
+/// error, and the next one is answered. Returns the worst outcome.
 fn answer_inputs(
     rt: &(impl Runtime + AllocGlobal),
     alloc: Global,
@@ -115,7 +116,7 @@ fn answer_inputs(
     Ok(worst)
 }
 
-/// Answers each index of an input on standard output. The worst outcome.
+/// Answers each index of an input on standard output. Returns the worst outcome.
 fn answer_input<W: Write>(
     rt: &impl Eprint,
     alloc: Global,

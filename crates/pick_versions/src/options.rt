@@ -21,18 +21,18 @@ pub struct Options<'a> {
     pub steps: u64,
     /// Whether answers have explanations.
     pub why: bool,
-    /// Whether answers are objects of JSON.
+    /// Whether answers are JSON objects.
     pub json: bool,
     /// The file for graphs.
     pub dot: Option<&'a str>,
     /// The file for certificates.
     pub certificate: Option<&'a str>,
-    /// The files to read, in turn. Without one it is standard input.
+    /// The files to read, in turn. If there is none, standard input is read.
     pub files: Vec<&'a str>,
 }
 
-/// Reads a command line, whose first word is the program's name. A call for the help or the version is an error too: it
-/// has the text, and isn't for standard error. So are certificates of several files.
+/// Reads a command line, whose first word is the program's name. If it asks for the help or the version, the error is
+/// that text, which is for standard output. Certificates of several files are refused too.
 pub fn read<'a>(alloc: Global, words: &'a [String]) -> Result<Options<'a>, Error>
     ensures one { IfOk result (λ options. is_some options.certificate ≡ true → length options.files.items ≤ 1) }
 {
@@ -60,17 +60,17 @@ fn command<'a>(alloc: Global) -> Result<Command<'a>, AllocError> {
     let json = flag(
         alloc,
         "json",
-        "Answers by an object of JSON for each index, on a line; not with --why",
+        "Prints the answer to each index as one JSON object on one line; not with --why",
     );
     let dot = output(
         alloc,
         "dot",
-        "Writes a graph of why there is no solution to this file, for each such index",
+        "Writes to this file a graph for each index without a solution, which shows why",
     );
     let certificate = output(
         alloc,
         "certificate",
-        "Writes a certificate that there is no solution to this file, for each such index; takes one FILE at most",
+        "Writes to this file a certificate for each index without a solution; takes one FILE at most",
     );
     let files = Arg::new(alloc, "files")
         .value_name("FILE")
@@ -104,8 +104,8 @@ fn output<'a>(alloc: Global, name: &'a str, help: &'a str) -> Arg<'a> {
         .help(help)
 }
 
-/// What is asked for, of a command line that is understood: the number that was found for the steps, or [`STEPS`] if
-/// none was, which flags were found, and the files that were found, to write and to read.
+/// The options of a command line that was parsed: the number of steps that it gives, or else [`STEPS`]; which flags it
+/// has; and the files that it names, to write and to read.
 fn options_of<'a>(alloc: Global, matches: &ArgMatches<'a>) -> Result<Options<'a>, AllocError>
     ensures default { one_text (found_of matches.now) (codes "steps") ≡ None
         → IfOk result (λ options. options.steps ≡ STEPS) }

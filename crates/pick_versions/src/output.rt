@@ -23,7 +23,7 @@ impl<'o, W: Write> Output<'o, W> {
         }
     }
 
-    /// Prints the answer of each index of an input, and records why there is no solution. The worst outcome.
+    /// Prints the answer of each index of an input, and records why there is no solution. Returns the worst outcome.
     pub fn print<A: Answering + Drop>(
         &mut self,
         alloc: Global,

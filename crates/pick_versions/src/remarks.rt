@@ -1,4 +1,4 @@
-//! What is said on standard error besides an answer: why a line is unreadable, and what is noteworthy of an index.
+//! Messages on standard error: why a line is unreadable, and notes on an index.
 ghost use Rattle.example_answers.specs.Answers.{AnswersLines};
 ghost use Rattle.example_answers.specs.Explained.{ExplainsLines};
 
@@ -8,7 +8,7 @@ use index_text::{Line, diagnose};
 use resolvo_pool::{Interner, ProviderFunctions};
 use std::alloc::{AllocError, Global};
 
-/// The search for the best solution, which says on standard error what there is to say besides its answers.
+/// Answers indexes by the search for the best solution, and writes messages about them to standard error.
 #[derive(Drop)]
 pub struct Remarking<'r, 'n, R: Eprint> {
     rt: &'r R,
@@ -19,12 +19,12 @@ pub struct Remarking<'r, 'n, R: Eprint> {
 }
 
 impl<'r, 'n, R: Eprint> Remarking<'r, 'n, R> {
-    /// The search in the indexes of an input of this name.
+    /// Answers the indexes of the input with this name.
     pub fn new(rt: &'r R, steps: u64, name: &'n str) -> Self {
         Remarking { rt, steps, name }
     }
 
-    /// Says what there is to say besides this answer to the index of these lines.
+    /// Writes the messages that go with this answer to the index of these lines.
     fn say(&self, alloc: Global, lines: &[Line<'_>], answered: &AnswerText, notes: &String) {
         say_fault(self.rt, alloc, self.name, lines, answered.unreadable);
         say_notes(self.rt, self.name, lines, notes);
@@ -57,7 +57,7 @@ impl<R: Eprint> Answering for Explaining<'_, '_, R> {
     }
 }
 
-/// Says why a line is unreadable, as far as there is memory, and standard error can be written.
+/// Writes why a line is unreadable. Nothing is written if memory is refused or standard error fails.
 fn say_fault(
     rt: &impl Eprint,
     alloc: Global,
@@ -72,7 +72,7 @@ fn say_fault(
     }
 }
 
-/// Says what is noted of the index of these lines, as far as standard error can be written.
+/// Writes the notes on the index of these lines. A failure of standard error is ignored.
 fn say_notes(rt: &impl Eprint, name: &str, lines: &[Line<'_>], notes: &String) {
     let first = lines.first().map_or(1, |line| line.number);
     for note in notes.as_str().lines() {
@@ -80,7 +80,8 @@ fn say_notes(rt: &impl Eprint, name: &str, lines: &[Line<'_>], notes: &String) {
     }
 }
 
-/// Where the line of this number is unreadable, and what was expected there; empty if it is read.
+/// The message on the line with this number: where it is unreadable, and what was expected there. Empty if it is
+/// readable.
 fn fault(alloc: Global, name: &str, lines: &[Line<'_>], number: u64) -> Result<String, AllocError> {
     match diagnose(alloc, lines, number)? {
         Some(fault) => {

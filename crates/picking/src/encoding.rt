@@ -1,4 +1,4 @@
-//! How a search encodes: clauses of what is required come first, and those of a candidate once it is true.
+//! How a search encodes: the clauses of the request first, and those of a candidate's dependencies once it is true.
 use crate::adding::{Encoded, Need, add_disjunction, add_gate, reason_for};
 use crate::package_source::PackageSource;
 use crate::progress::Progress;
@@ -11,7 +11,7 @@ use resolvo_ids::{
 use resolvo_pool::{ConditionalRequirement, Dependencies, Requirement};
 use solutions::Reason;
 
-/// A store has fewer variables than this.
+/// A store has at most this many variables.
 const MOST_VARIABLES: usize = (1 << 31) - 1;
 
 /// Who needs something: a variable, and its solvable unless it is the root.
@@ -22,18 +22,19 @@ struct Parent<S> {
 }
 
 /// Encodes into the store of a search what may be picked. The provider is queried for a package's candidates when a
-/// requirement names it, and for a solvable's dependencies when it first is true.
+/// requirement, a condition, a constraint or a wish first names it, and for a solvable's dependencies when the solvable
+/// is first true.
 #[derive(Drop)]
 pub(crate) struct Encoder<T: SearchStore, P> {
     pub(crate) packages: P,
-    /// What may be picked.
+    /// The solvables that have a variable, also those that may not be picked.
     pub(crate) candidates: Vec<(VariableId, T::SolvableId), T::Alloc>,
     pub(crate) encoded: Encoded<T>,
     /// For each version set of a condition the variable that is true if one of its candidates is.
     gates: Mapping<VersionSetId, VariableId, T::Alloc>,
-    /// How many variables of the store were introduced.
+    /// How many variables of the store `introduce_all` has visited.
     introduced: usize,
-    /// The solvables whose dependencies are encoded.
+    /// The variables of the solvables whose dependencies are encoded.
     dependents: IndexedSet<VariableId, T::Alloc>,
     alloc: T::Alloc,
 }
@@ -68,7 +69,7 @@ impl<T: SearchStore, P: PackageSource<T::NameId, T::SolvableId, T::Alloc> + Drop
         self.introduce_all(store)
     }
 
-    /// The variable of a solvable that is wished for, or against. It is false if its package doesn't have it.
+    /// The variable of a solvable that a wish names. A clause makes it false if the package doesn't list the solvable.
     pub(crate) fn wished(&mut self, store: &mut T, solvable: T::SolvableId) -> Result<VariableId> {
         let variable = store.variable(solvable)?;
         let Some(name) = self.packages.name(solvable) else {
@@ -81,7 +82,7 @@ impl<T: SearchStore, P: PackageSource<T::NameId, T::SolvableId, T::Alloc> + Drop
         Ok(variable)
     }
 
-    /// Propagates, and encodes what is newly true, until nothing is, or a clause is false.
+    /// Propagates and encodes by turns, until no candidate is newly true or a clause is false.
     pub(crate) fn encode_true(&mut self, progress: &mut Progress<T>) -> Result<()> {
         for _ in 0..u64::MAX {
             let level = progress.trail.level();
@@ -114,7 +115,7 @@ impl<T: SearchStore, P: PackageSource<T::NameId, T::SolvableId, T::Alloc> + Drop
         Ok(some)
     }
 
-    /// Introduces the variables that are new in the store.
+    /// Introduces the solvables whose variables are new in the store: encodes what their packages say of them.
     pub(crate) fn introduce_all(&mut self, store: &mut T) -> Result<()> {
         for index in self.introduced..MOST_VARIABLES {
             let variable = VariableId::from_index(index);
@@ -132,7 +133,7 @@ impl<T: SearchStore, P: PackageSource<T::NameId, T::SolvableId, T::Alloc> + Drop
         Ok(())
     }
 
-    /// Lets no other version stand beside a solvable, and makes it false if its package rules it out.
+    /// Forbids a second version of a solvable's package, and the solvable itself if its package rules it out.
     fn introduce(
         &mut self,
         store: &mut T,
@@ -196,7 +197,8 @@ impl<T: SearchStore, P: PackageSource<T::NameId, T::SolvableId, T::Alloc> + Drop
         Ok(())
     }
 
-    /// Says that the parent, if true, requires a candidate: under a condition once for each list of its normal form.
+    /// Adds the clause that the parent, if true, requires a candidate. Under a condition, it adds one such clause for
+    /// each list of the condition's normal form.
     fn require(
         &mut self,
         store: &mut T,

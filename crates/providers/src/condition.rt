@@ -1,7 +1,7 @@
-//! Conditions: when a requirement is asked for at all.
+//! Conditions: when a requirement counts.
 use typed_ids::{ConditionId, OrderedByParts, SameClone, SameValue, VersionSetId};
 
-/// A condition is met by what is picked: by a candidate of a version set, or as two other conditions are.
+/// What has to hold of what is picked: that a candidate of a version set is, or what two other conditions say together.
 #[derive(Clone, Copy, Debug, PartialEq, Eq, PartialOrd, Ord, Hash)]
 pub enum Condition {
     /// It is met as the operator says of two others.

@@ -1,4 +1,4 @@
-//! Requirements that are asked for on a condition.
+//! Requirements that may count only under a condition.
 ghost use Rattle.std.specs.Prelude.{◌≡◌, None};
 
 use crate::requirement::Requirement;
@@ -6,12 +6,12 @@ use typed_ids::{
     ConditionId, OrderedByParts, SameClone, SameValue, VersionSetId, VersionSetUnionId,
 };
 
-/// A requirement, and the condition under which alone it is asked for; without one it always is.
+/// A requirement, and the condition under which alone it counts; without one it always does.
 #[derive(Clone, Copy, Debug, PartialEq, Eq, PartialOrd, Ord, Hash)]
 pub struct ConditionalRequirement {
-    /// When it is asked for; always, if there is none.
+    /// When the requirement counts; always, if there is none.
     pub condition: Option<ConditionId>,
-    /// What is asked for.
+    /// What is required.
     pub requirement: Requirement,
 }
 

@@ -26,7 +26,7 @@ pub enum Requirement {
 }
 
 impl Requirement {
-    /// The requirement, asked for only where the condition is met.
+    /// The requirement, which counts only if the condition is met.
     pub fn with_condition(self, condition: ConditionId) -> ConditionalRequirement
         ensures condition { result.condition ≡ Some condition }
         ensures requirement { result.requirement ≡ self }

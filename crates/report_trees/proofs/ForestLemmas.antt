@@ -25,13 +25,6 @@ rows_joined depth parent (tree line below beside) others =
     ap (λ t. first ∷ (rows_of (depth + 1) (Some line) below ++ t)) (rows_joined depth parent beside others)
     ∙ ap (λ t. first ∷ t) (sym (append_assoc (rows_of (depth + 1) (Some line) below) _ _))
 
-pub lines_joined : (forest others : Forest) → lines_of (joined forest others) ≡ lines_of forest ++ lines_of others
-unfolding joined
-lines_joined none others = refl
-lines_joined (tree line below beside) others =
-    ap (λ t. line ∷ (lines_of below ++ t)) (lines_joined beside others)
-    ∙ ap (λ t. line ∷ t) (sym (append_assoc (lines_of below) _ _))
-
 pub lines_of_rows : (depth : ℕ) (parent : Option ℕ) (forest : Forest)
     → lines_in (rows_of depth parent forest) ≡ lines_of forest
 lines_of_rows depth parent none = refl

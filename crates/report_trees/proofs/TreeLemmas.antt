@@ -1,8 +1,8 @@
 -- What makes a text that of a forest, and what grows by one with each line.
 use Rattle.std.proofs.Common.{◌≡◌, ◌∙◌, ℕ, zero, suc, ◌+◌, ◌-◌, ◌<◌, Bool, arith, List, [], ◌∷◌, ◌++◌}
-use Rattle.std.proofs.Common.{ap, get_or, length, codes, map, subst, sym, take}
+use Rattle.std.proofs.Common.{ap, length, codes, map, subst, sym, take}
 use Rattle.std.specs.declared.vec.Vec.{Vec}
-use Rattle.std.proofs.lemmas.List.{length-map, map_more}
+use Rattle.std.proofs.lemmas.List.{length-map}
 use Rattle.report_trees.specs.Forests.{IsForest, has_edge}
 use Rattle.report_trees.specs.Growing.{AreRows, lists}
 use Rattle.report_trees.specs.TreeTexts.{IsTree, indent, numbered, text_of_all}
@@ -21,12 +21,6 @@ is_tree {A} edges texts rows shown all seen are same numbers shown_all =
       is = ap (text_of_all (lists edges) texts)
           (shown_all ∙ (numbers ∙ ap (λ r. numbered (lists edges) r 1 r) (same ∙ are.is)));
     }
-
--- a further element
-pub mapped_more : {X Y : Type 0} (f : X → Y) (xs : List X) (i : ℕ) (x : X) (old new : List Y) → i < length xs
-    → x ≡ get_or xs i x → old ≡ map f (take i xs) → new ≡ old ++ f x ∷ [] → new ≡ map f (take (i + 1) xs)
-mapped_more f xs i x old new below at are is =
-    is ∙ (ap (λ t. t ++ f x ∷ []) are ∙ (ap (λ y. map f (take i xs) ++ f y ∷ []) at ∙ sym (map_more f xs i x below)))
 
 -- a further step
 pub indent_more : (left : ℕ) → 0 < left → indent left ≡ codes "  " ++ indent (left - 1)

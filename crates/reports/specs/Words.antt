@@ -1,4 +1,4 @@
--- What reports call packages, versions and version sets. N are the names, S the solvables. What isn't known has no
+-- How reports name packages, versions and version sets. N are the names, S the solvables. What isn't known has no
 -- text.
 use Rattle.std.specs.Prelude.{ℕ, Bool, true, false, ◌&&◌, ◌==◌, ◌-◌, List, [], ◌∷◌, ◌++◌, codes, decimal, drop}
 use Rattle.std.specs.Prelude.{if◌then◌else◌, length, nat_lt, option_map, slice_get, unwrap_or}
@@ -9,13 +9,13 @@ use Rattle.resolvo_pool.specs.Texts.{Texts, requirement_text}
 use Rattle.resolvo_pool.specs.Types.Requirement.{Requirement}
 use Rattle.resolvo_pool.specs.Types.Requirement.TheVariants.{Single}
 
--- whether a text begins so
+-- whether a text has this beginning
 abbrev pub begins : List ℕ → List ℕ → Bool
 begins [] text = true
 begins (a ∷ beginning) [] = false
 begins (a ∷ beginning) (b ∷ text) = (a == b) && begins beginning text
 
--- the text without this beginning, if it begins so
+-- the text without this beginning; all of it, if it has another one
 abbrev pub without : List ℕ → List ℕ → List ℕ
 without beginning text = if begins beginning text then drop (length beginning) text else text
 
@@ -36,7 +36,7 @@ module _ {N S : Type 0} (universe : Universe N S) (texts : Texts N S) where
   text_of_requirement requirement =
       if knows_requirement universe requirement then requirement_text universe texts requirement else []
 
-  -- behind the name of its package
+  -- the name of its package, then the set
   abbrev pub text_of_set : VersionSetId → List ℕ
   text_of_set set = text_of_requirement (Single set)
 
@@ -47,24 +47,26 @@ module _ {N S : Type 0} (universe : Universe N S) (texts : Texts N S) where
       then without (texts.name (universe.solvable_name solvable) ++ codes " ") (texts.solvable solvable)
       else []
 
-  -- each version behind a comma
+  -- each version after a comma
   abbrev pub text_of_each : List S → List ℕ
   text_of_each [] = []
   text_of_each (version ∷ versions) = codes ", " ++ (text_of_version version ++ text_of_each versions)
 
   -- the last of these
-  abbrev pub text_of_end : List S → List ℕ
-  text_of_end versions = unwrap_or (option_map text_of_version (slice_get versions (length versions - 1))) []
+  abbrev pub text_of_last_version : List S → List ℕ
+  text_of_last_version versions =
+      unwrap_or (option_map text_of_version (slice_get versions (length versions - 1))) []
 
-  -- the last of them behind two dots, and how many there are
-  abbrev pub text_of_last : List S → List ℕ
-  text_of_last versions = codes ", .., " ++ (text_of_end versions ++ text_of_count (length versions))
+  -- the last of them after two dots, and how many there are
+  abbrev pub text_of_last_and_count : List S → List ℕ
+  text_of_last_and_count versions =
+      codes ", .., " ++ (text_of_last_version versions ++ text_of_count (length versions))
 
-  -- the versions behind the first of these: all if they are few, else the last one
+  -- the versions after the first one: all if they are few, otherwise the last one
   abbrev pub text_of_others : List S → List ℕ
   text_of_others [] = []
   text_of_others (first ∷ others) =
-      if nat_lt (length others) 4 then text_of_each others else text_of_last (first ∷ others)
+      if nat_lt (length others) 4 then text_of_each others else text_of_last_and_count (first ∷ others)
 
   abbrev pub text_of_all : List S → List ℕ
   text_of_all [] = []

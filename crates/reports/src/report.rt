@@ -1,4 +1,4 @@
-//! The report: a line for each thing that is said.
+//! The report: a line for each set of reasons that differ only in the version.
 ghost use Rattle.std.specs.Prelude.{◌≡◌, [], length, OnOk};
 ghost use Rattle.resolvo_pool.specs.Texts.{IsAppended, IsContinuedBy};
 ghost use Rattle.reports.specs.Reports.{IsReport, between, lines_text, needed_by, others_text, package_of, room_after};
@@ -14,8 +14,8 @@ use solutions::Reason;
 
 type Done = Result<(), StoreError>;
 
-/// Appends a report of the reasons for which there is no solution: a line for each thing that is said, once. Where
-/// there are more than twenty, a chain of needs is told three links to a line.
+/// Appends a report of the reasons for which there is no solution: a line for each set of reasons that differ only in
+/// the version. If there are more than twenty lines, up to three links of a chain of needs share a line of text.
 pub fn write_report<P: DependencyProvider>(
     provider: &P,
     reasons: &[Reason<P::NameId, P::SolvableId>],
@@ -108,28 +108,28 @@ fn room_of(count: usize) -> usize
     if count >= 20 { 2 } else { 0 }
 }
 
-/// The room behind a line that goes on in the line of text before it, or begins one.
+/// The room behind a line that joins the line of text before it, or begins a new one.
 fn room_after(joins: bool, full: usize, room: usize) -> usize
     ensures { result ≡ room_after joins full room }
 {
     if joins { room.saturating_sub(1) } else { full }
 }
 
-/// Whether a line goes on in the line of text before it.
+/// Whether a line joins the line of text before it.
 fn goes_on(room: usize, is_link: bool) -> bool
     ensures { result ≡ goes_on room is_link }
 {
     room > 0 && is_link
 }
 
-/// What stands before a line that goes on in the line of text before it, or begins one.
+/// What stands before a line that joins the line of text before it, or begins a new one.
 fn between(joins: bool) -> &'static str
     ensures { result.now ≡ between joins }
 {
     if joins { "; " } else { "\n" }
 }
 
-/// The package that a line needs.
+/// The package that a line needs, if it needs a single version set; none for a union, which may name several.
 fn needed_by<I: Interner>(
     interner: &I,
     line: &Line<I::NameId, I::SolvableId, I::Alloc>,

@@ -1,9 +1,10 @@
-//! What reports call packages, versions and version sets.
+//! How reports name packages, versions and version sets.
 ghost use Rattle.std.specs.Prelude.{◌≡◌, OnOk};
 ghost use Rattle.resolvo_pool.specs.Texts.{IsAppended};
 ghost use Rattle.reports.specs.Words.{text_of_name, text_of_solvable, text_of_requirement, text_of_set};
-ghost use Rattle.reports.specs.Words.{text_of_string, text_of_version, text_of_others, text_of_each, text_of_last};
-ghost use Rattle.reports.specs.Words.{text_of_all, text_of_count, text_of_end, without};
+ghost use Rattle.reports.specs.Words.{text_of_string, text_of_version, text_of_others, text_of_each};
+ghost use Rattle.reports.specs.Words.{text_of_all, text_of_count, text_of_last_and_count, text_of_last_version};
+ghost use Rattle.reports.specs.Words.{without};
 
 use resolvo_ids::{StoreError, StringId, VersionSetId};
 use resolvo_pool::{Interner, Requirement};
@@ -72,7 +73,7 @@ pub(crate) fn write_requirement<I: Interner>(
     }
 }
 
-/// Appends a version set, behind the name of its package.
+/// Appends the name of a version set's package, and then the set.
 pub(crate) fn write_set<I: Interner>(
     interner: &I,
     set: VersionSetId,
@@ -84,7 +85,7 @@ pub(crate) fn write_set<I: Interner>(
     write_requirement(interner, Requirement::Single(set), text)
 }
 
-/// Appends a solvable without the name of its package, if its text begins with it.
+/// Appends the text of a solvable; if that begins with the name of its package and a blank, only what follows.
 pub(crate) fn write_version<I: Interner>(
     interner: &I,
     solvable: I::SolvableId,
@@ -104,7 +105,7 @@ pub(crate) fn write_version<I: Interner>(
     write_without(name.as_str(), whole.as_str(), text)
 }
 
-/// Appends a text without its beginning, if it begins so.
+/// Appends `whole`; if it begins with `beginning`, only what follows.
 #[tactic(auto, using(crate::proofs::TextLemmas::stripped, crate::proofs::TextLemmas::unstripped))]
 fn write_without<A: Allocator>(beginning: &str, whole: &str, text: &mut String<A>) -> Done
     ensures { OnOk result (IsAppended text.old text.new (without beginning.now whole.now)) }
@@ -115,7 +116,7 @@ fn write_without<A: Allocator>(beginning: &str, whole: &str, text: &mut String<A
     }
 }
 
-/// Appends versions: all of them if they are few, and else the first and the last one and how many there are.
+/// Appends versions: all of them if there are at most four, otherwise the first, the last, and how many there are.
 pub(crate) fn write_all<I: Interner>(
     interner: &I,
     versions: &[I::SolvableId],
@@ -133,8 +134,8 @@ pub(crate) fn write_all<I: Interner>(
     }
 }
 
-/// Appends the versions behind the first of these: all of them if they are few, and else the last one and how many
-/// there are in all.
+/// Appends the versions after the first one: all of them if there are at most three, otherwise the last one, and how
+/// many there are with the first.
 fn write_others<I: Interner>(
     interner: &I,
     versions: &[I::SolvableId],
@@ -146,32 +147,32 @@ fn write_others<I: Interner>(
     match versions {
         [] => Ok(()),
         [_, others @ ..] if others.len() < 4 => write_each(interner, others, text),
-        _ => write_last(interner, versions, text),
+        _ => write_last_and_count(interner, versions, text),
     }
 }
 
-/// Appends the last version, behind two dots, and how many there are.
-fn write_last<I: Interner>(
+/// Appends two dots, the last version, and how many there are.
+fn write_last_and_count<I: Interner>(
     interner: &I,
     versions: &[I::SolvableId],
     text: &mut String<I::Alloc>,
 ) -> Done
     ensures { OnOk result (IsAppended text.old text.new
-        (text_of_last (I.universe interner.now) (I.texts interner.now) versions.now)) }
+        (text_of_last_and_count (I.universe interner.now) (I.texts interner.now) versions.now)) }
 {
     text.push_str(", .., ")?;
-    write_end(interner, versions, text)?;
+    write_last_version(interner, versions, text)?;
     write_count(versions.len(), text)
 }
 
 /// Appends the last version.
-fn write_end<I: Interner>(
+fn write_last_version<I: Interner>(
     interner: &I,
     versions: &[I::SolvableId],
     text: &mut String<I::Alloc>,
 ) -> Done
     ensures { OnOk result (IsAppended text.old text.new
-        (text_of_end (I.universe interner.now) (I.texts interner.now) versions.now)) }
+        (text_of_last_version (I.universe interner.now) (I.texts interner.now) versions.now)) }
 {
     match versions.last() {
         Some(last) => write_version(interner, *last, text),
@@ -187,7 +188,7 @@ fn write_count<A: Allocator + Copy>(count: usize, text: &mut String<A>) -> Done
     Ok(text.push_str(&counted)?)
 }
 
-/// Appends each version behind a comma.
+/// Appends a comma and the version, for each version.
 fn write_each<I: Interner>(
     interner: &I,
     versions: &[I::SolvableId],

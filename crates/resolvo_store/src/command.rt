@@ -1,4 +1,4 @@
-//! What a store is asked.
+//! Commands to a store.
 ghost use Rattle.std.specs.Prelude.{◌≡◌, true};
 
 use crate::helper_origin::HelperOrigin;

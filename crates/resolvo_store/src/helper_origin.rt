@@ -11,7 +11,7 @@ use std::alloc::Allocator;
 use typed_ids::{SameClone, SameValue, StoreError, VariableId, VersionSetId};
 use variables::VariableMap;
 
-/// What a helper variable is asked to stand for. `N` are the provider's names.
+/// What a helper variable stands for. `N` are the provider's names.
 #[derive(Clone, Copy, Debug, PartialEq, Eq)]
 pub enum HelperOrigin<N> {
     /// Some solvable of the package is part of the solution.

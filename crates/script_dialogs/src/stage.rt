@@ -1,11 +1,11 @@
-//! How far a script has come.
+//! How far a script was read.
 use script_packages::Packages;
 
-/// How far a script has come whose commands are given to such a store.
+/// How far a script was read. `C` is the store that obeys its commands.
 #[derive(Drop)]
 pub(crate) enum Stage<C> {
-    /// In its catalogue, which lists these packages so far.
+    /// The next line is one of the catalogue, which has listed these packages so far.
     Catalogue(Packages),
-    /// Among its commands.
+    /// The next line is a command to this store.
     Commands(C),
 }

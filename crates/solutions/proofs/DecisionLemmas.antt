@@ -5,7 +5,7 @@ use Rattle.std.specs.Bool.{Decides}
 use Rattle.std.specs.Prelude.{Result, Ok, Err, IfOk, OnOk}
 use Rattle.std.specs.List.{All, list_any}
 use Rattle.std.proofs.lemmas.List.{take_all}
-use Rattle.std.proofs.lemmas.List.Elements.{All-get_or, All-more}
+use Rattle.std.proofs.lemmas.List.Elements.{All-more}
 
 -- what is so is decided by true, and what isn't by false
 pub decides_true : {P : Type 0} → P → Decides true P
@@ -22,10 +22,6 @@ module _ {X : Type 0} (P : X → Type 0) (xs : List X) (i : ℕ) where
   -- all were visited
   pub none_fails : length xs ≤ i → All P (take i xs) → Decides true (All P xs)
   none_fails end all = decides_true (subst (All P) (take_all i xs end) all)
-
-  -- the next one fails
-  pub next_fails : (x : X) → i < length xs → x ≡ get_or xs i x → (P x → ⊥) → Decides false (All P xs)
-  next_fails x below is fails = decides_false (λ all. fails (subst P (sym is) (All-get_or P xs i x below all)))
 
   -- the next one doesn't
   pub next_holds : (x : X) → i < length xs → x ≡ get_or xs i x → P x → All P (take i xs) → All P (take (i + 1) xs)

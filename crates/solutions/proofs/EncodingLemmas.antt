@@ -236,16 +236,6 @@ module _ {N S : Type 0} (p : Provider N S) where
       (both_true (p.universe.knows_set set)
       (not (list_any (is_among p picked) (non_matching p.universe p.answers set))) kept).1
 
--- what holds of all holds of each
-pub all_one : {X : Type 0} (P : X → Type 0) (xs : List X) (i : ℕ) (x : X) → i < length xs → x ≡ get_or xs i x →
-    All P xs → All P (x ∷ [])
-all_one P xs i x below is all = All-cons P x [] (subst P (sym is) (All-get_or P xs i x below all)) (All-nil P)
-
--- what isn't false is true
-pub true_or : (b : Bool) → (b ≡ false → ⊥) → b ≡ true
-true_or true fails = refl
-true_or false fails = absurd (fails refl)
-
 -- one of the lists passes a test
 pub some_at : {V X : Type 0} (items : V → List X) (test : List X →
     Bool) (lists : List V) (i : ℕ) (x : V) (list : List X) → i < length lists

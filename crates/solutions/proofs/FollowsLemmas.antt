@@ -3,7 +3,7 @@ use Rattle.std.proofs.Common.{◌≡◌, ◌∙◌, ℕ, ◌<◌, Bool, true, fa
 use Rattle.std.proofs.Common.{take, get_or, ap, refl, sym, subst, true≢false, append_assoc, arith}
 use Rattle.std.specs.List.{All}
 use Rattle.std.proofs.lemmas.List.{append-nil, take-append-le, take_all}
-use Rattle.std.proofs.lemmas.List.Elements.{All-nil, All-cons, All-head, All-tail, All-append, All-get_or}
+use Rattle.std.proofs.lemmas.List.Elements.{All-nil, All-cons, All-head, All-tail, All-get_or}
 use Rattle.solutions.specs.Clauses.{AreTrue, Follows, is_true}
 use Rattle.solutions.specs.declared.literal.Fact.{Fact}
 use Rattle.solutions.specs.declared.literal.Literal.{Literal}
@@ -11,10 +11,6 @@ use Rattle.solutions.specs.declared.literal.Literal.{Literal}
 not_true : (b : Bool) → not b ≡ true → b ≡ true → ⊥
 not_true true e f = true≢false (sym e)
 not_true false e f = true≢false (sym f)
-
-true_from : (b : Bool) → (b ≡ true → ⊥) → not b ≡ true
-true_from true fails = absurd (fails refl)
-true_from false fails = refl
 
 -- what holds of all of two lists holds of the first one's
 pub all_left : {X : Type 0} (P : X → Type 0) (xs ys : List X) → All P (xs ++ ys) → All P xs
@@ -64,18 +60,6 @@ module _ {N S : Type 0} where
     refuted = λ e holds asked true_ones. f.refuted e holds (such holds asked true_ones) true_ones;
   }
 
-  -- a literal that is such
-  pub follows_one : (l : Literal N S) (known now : List (Literal N S)) → now ≡ known ++ l ∷ []
-      → Follows (λ holds. is_true holds l ≡ true) known now false
-  follows_one l known now is = record {
-    more = l ∷ [];
-    is_more = is;
-    are_true = λ holds such true_ones. subst (AreTrue holds) (sym is)
-        (All-append (λ k. is_true holds k ≡ true) known (l ∷ []) true_ones
-        (All-cons (λ k. is_true holds k ≡ true) l [] such (All-nil (λ k. is_true holds k ≡ true))));
-    refuted = λ e holds such true_ones. true≢false (sym e);
-  }
-
   -- a literal of which it is known whether it is
   pub follows_known : (l : Literal N S) (known : List (Literal N S)) (value : Bool)
       → ((holds : Fact N S → Bool) → AreTrue holds known → is_true holds l ≡ value)
@@ -93,13 +77,6 @@ module _ {N S : Type 0} where
   true_at holds known i l below is true_ones =
       subst (λ k. is_true holds k ≡ true) (sym is) (All-get_or (λ k. is_true holds k ≡ true) known i l below true_ones)
 
-  -- what was known before is true where what is known now is
-  pub follows_before : (IsSuch : (Fact N S → Bool) → Type 0) (known now : List (Literal N S)) (answer : Bool) →
-      Follows IsSuch known now answer
-      → (holds : Fact N S → Bool) → AreTrue holds now → AreTrue holds known
-  follows_before IsSuch known now answer f holds true_ones =
-      all_left (λ l. is_true holds l ≡ true) known f.more (subst (AreTrue holds) f.is_more true_ones)
-
   -- one more step
   pub follows_step : (IsSuch IsOne : (Fact N S → Bool) → Type 0) (known next now : List (Literal N S))
       (answer wanted : Bool) → answer ≡ wanted
@@ -113,12 +90,6 @@ module _ {N S : Type 0} where
   pub positive : (holds : Fact N S → Bool) (l : Literal N S) → l.value ≡ true → is_true holds l ≡ true →
       holds l.fact ≡ true
   positive holds l value e = sym (ap (λ v. if v then holds l.fact else not (holds l.fact)) value) ∙ e
-
-  pub rival_out : (holds : Fact N S → Bool) (l : Literal N S) (fact : Fact N S) → l.fact ≡ fact → l.value ≡ false
-      → (holds fact ≡ true → ⊥) → is_true holds l ≡ true
-  rival_out holds l fact is value fails =
-      ap (λ v. if v then holds l.fact else not (holds l.fact)) value ∙ ap (λ f. not (holds f)) is
-      ∙ true_from (holds fact) fails
 
   -- the literals that were known before come first
   pub follows_take : (IsSuch : (Fact N S → Bool) → Type 0) (known now : List (Literal N S)) (answer : Bool) →

@@ -49,8 +49,3 @@ module _ {N S : Type 0} (p : Provider N S) where
     pub no_version : (name : N) → All (λ t. p.universe.solvable_name t ≡ name → ⊥) picked → IsOneVersion p picked name
     no_version name none = λ s t among_s among_t named_s named_t.
         absurd (of_picked p equal (λ u. p.universe.solvable_name u ≡ name → ⊥) picked s none among_s named_s)
-
-  pub that_version : (picked : List S) (name : N) (s : S) → p.universe.solvable_name s ≡ name →
-      IsOnlyOne p picked s → IsOneVersion p picked name
-  that_version picked name s named only = λ t u among_t among_u named_t named_u.
-      only t among_t (named_t ∙ sym named) ∙ sym (only u among_u (named_u ∙ sym named))

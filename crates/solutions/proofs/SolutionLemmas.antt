@@ -43,9 +43,6 @@ module _ {N S : Type 0} (p : Provider N S) (requested : List ConditionalRequirem
   AreVersions = All (λ s. p.universe.knows_solvable s ≡ true) picked
       × IsDistinct p.same_name (map p.universe.solvable_name picked)
 
-  pub versions_fail : (b : Bool) → b ≡ false → Decides b AreVersions → Decides false (IsSolution p requested picked)
-  versions_fail b is decides = decides_false (λ s. refuted is decides (s.known, s.one_a_package))
-
   module _ (has : S → Bool) (is : (s : S) → has s ≡ is_among p picked s) where
     pub requested_fails : (b : Bool) → b ≡ false → Decides b (All (IsSatisfied p has) requested) →
         Decides false (IsSolution p requested picked)

@@ -4,13 +4,12 @@ use Rattle.std.specs.Prelude.{◌≡◌, Bool, true, false, ◌||◌, List, All,
 use Rattle.std.specs.List.{list_all, list_any}
 use Rattle.std.specs.declared.vec.Vec.{Vec}
 use Rattle.resolvo_ids.specs.Types.VersionSetId.{VersionSetId}
-use Rattle.resolvo_pool.specs.Dependencies.{Needs}
 use Rattle.resolvo_pool.specs.Functions.{Provider}
 use Rattle.resolvo_pool.specs.Types.ConditionalRequirement.{ConditionalRequirement}
 use Rattle.resolvo_pool.specs.Types.Requirement.{Requirement}
 use Rattle.solutions.specs.Clauses.{AreSatisfied, has_true}
 use Rattle.solutions.specs.Solutions.{AreNeedsSatisfied, IsSatisfied, has_picked, is_allowed, is_among}
-use Rattle.solutions.specs.Solutions.{is_respected, is_satisfied}
+use Rattle.solutions.specs.Solutions.{is_satisfied}
 use Rattle.solutions.specs.declared.literal.Fact.{Fact}
 use Rattle.solutions.specs.declared.literal.Fact.TheVariants.{Picked, Held, First}
 use Rattle.solutions.specs.declared.literal.Literal.{Literal}
@@ -39,12 +38,6 @@ module _ {N S : Type 0} (p : Provider N S) (unless : List (Literal N S)) (picked
 
   abbrev pub AreSatisfiedUnless : List ConditionalRequirement → Type 0
   AreSatisfiedUnless requirements = Unless (All (IsSatisfied p (is_among p picked)) requirements)
-
-  abbrev pub AreRespectedUnless : List VersionSetId → Type 0
-  AreRespectedUnless sets = Unless (list_all (is_respected p (is_among p picked)) sets ≡ true)
-
-  abbrev pub AreNeedsSatisfiedUnless : Needs → Type 0
-  AreNeedsSatisfiedUnless needs = Unless (AreNeedsSatisfied p (is_among p picked) needs)
 
   abbrev pub NonePickedUnless : List S → Type 0
   NonePickedUnless solvables = Unless (list_any (is_among p picked) solvables ≡ false)

@@ -9,7 +9,7 @@ use resolvo_pool::{Candidates, DependencyProvider, Interner, ProviderFunctions};
 use std::alloc::Allocator;
 
 /// Whether a solvable is a candidate of its package, which doesn't exclude it, and which isn't locked to another one.
-/// The package's candidates are asked for once.
+/// The package's candidates are queried once.
 pub(crate) fn is_allowed<D: DependencyProvider>(
     alloc: D::Alloc,
     provider: &D,

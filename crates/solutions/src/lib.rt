@@ -1,21 +1,22 @@
-//! Whether versions are a solution, and the best one, and that there is none: all is decided over the packages alone,
-//! and proved.
+//! Checks of a search's answers: that the picked versions are a solution, and the best one; or that there is no
+//! solution. They read the provider alone, and are proved.
 //!
-//! A search for versions promises nothing: what it says is checked at its end, by code that isn't the search's.
+//! A search for versions promises nothing: its answers are checked at its end. The checks share only the conversion of
+//! conditions with it.
 //!
 //! - [`is_solution`] checks what was picked: the request and each picked version's requirements are satisfied, its
 //!   constraints are respected, and at most one version of a package is picked. Each picked version is allowed: its
 //!   package has it, doesn't exclude it, and isn't locked to another one.
-//! - [`are_so`] checks that the packages and the request say what each [`Reason`] says, and [`are_enough`] that no
-//!   choice of versions meets all reasons: by the clauses that a search learnt, lists of [`PackageLiteral`]s. In each
-//!   choice that meets the reasons at least one literal of each clause is true. That follows from the reasons, and from
-//!   the clauses before it. If the reasons are so and are enough, there is no solution (`proofs/ReasonLaws`).
-//!   [`are_met`] checks that a choice meets reasons, and [`is_no_reason_spare`], by a choice for each reason that meets
-//!   all others, that no reason is spare.
-//! - [`ranks`] says how good what was picked is, by wishes, and [`best_up_to`] for how many of them no solution is
-//!   better. [`newest_wishes`] are the wishes for the newest versions of what is requested.
-//! - [`are_needed`] checks that each picked version is needed, by its [`Cause`]: the request offers it, or a wish has
-//!   it, or one that is picked before it needs it. [`find_spare`] finds one that can be left out.
+//! - [`are_so`] checks that each [`Reason`] is true: the packages or the request say it. [`are_enough`] checks that no
+//!   choice of versions meets all reasons. It replays the search's learnt clauses, lists of [`PackageLiteral`]s: each
+//!   follows by unit propagation from the reasons and the clauses before it. If the reasons are true and enough, there
+//!   is no solution (`proofs/ReasonLaws`). [`are_met`] checks that a choice meets reasons. [`is_no_reason_spare`] gets,
+//!   for each reason, a choice that meets all others, and checks it; so no reason is spare.
+//! - A [`Wish`] lists alternatives, the best first. [`ranks`] counts for each wish how many come before the first true
+//!   one, and [`best_up_to`] says for how many wishes, from the first on, no solution is better. [`newest_wishes`] are
+//!   the wishes for the newest versions of what is requested.
+//! - [`are_needed`] checks that each picked version has a [`Cause`]: the request offers it, or a wish has it, or an
+//!   earlier picked version requires it. [`find_spare`] finds one without which the rest is as good a solution.
 //!
 //! `specs/Solutions`, `specs/Reasons`, `specs/Wishes`, `specs/Needed` and `specs/Newest` say this in the words of the
 //! provider alone.
@@ -26,11 +27,11 @@
 //! | `reason`, `reasons`, `meeting` | why there is no solution, whether that is so, and whether a choice meets it |
 //! | `literal`, `atoms`, `encoding`, `encoded` | facts of a selection, their numbers, what reasons say, as clauses |
 //! | `clauses`, `clause_state`, `trail`, `watches` | what follows from clauses, and which clauses to visit |
-//! | `refuting`, `settling`, `best` | the replay of what was learnt, and then of one wish after another |
+//! | `refuting`, `settling`, `best` | the replay of learnt clauses, which wishes are settled, and the number of these |
 //! | `wish`, `newest`, `ranking` | wishes, those for the newest versions, how good what is picked is |
 //! | `needed`, `offers`, `spare` | causes, what requirements offer, what is left without a version |
 //!
-//! `queries` asks the provider for candidates, and `evidence` is what a search shows.
+//! `queries` queries the provider for candidates, and `evidence` is what a search hands over to be checked.
 #![tactic(auto)]
 
 mod allowed;

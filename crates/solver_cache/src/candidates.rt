@@ -1,4 +1,4 @@
-//! The candidates of packages, asked of the provider.
+//! The candidates of packages, queried from the provider.
 ghost use Rattle.std.specs.Prelude.{◌≡◌, IfOk, IfErr};
 ghost use Rattle.typed_ids.specs.declared.error.StoreError.TheVariants.{OutOfMemory};
 ghost use Rattle.providers.specs.Provider.{favored_of};

@@ -1,4 +1,4 @@
-//! A solver's cache: each question to a provider is asked once, and each answer kept.
+//! A solver's cache: each query to a provider is made once, and each answer stored.
 //!
 //! A resolver asks for the same candidates again and again, and a provider may read them from a disk or a network. A
 //! [`SolverCache`] stands between them: it keeps the candidates of each package that was asked for, the candidates that

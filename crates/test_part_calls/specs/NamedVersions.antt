@@ -3,7 +3,7 @@ use Rattle.std.specs.Prelude.{◌≡◌, ℕ, List, [], ◌∷◌, codes, length
 use Rattle.call_texts.specs.Versions.{filled, versions_in}
 use Rattle.call_texts.specs.declared.versions.Version.{Version}
 
--- a name of so many bytes that begins at this one, and a version
+-- a name of `n` bytes that begins here, and a version
 abbrev pub place : ℕ → ℕ → ℕ → ℕ → Version
 place name name_length version version_length = record {
   name = name;

@@ -1,4 +1,4 @@
-//! Callers of maps that know nothing of the ids but that they are dense, and nothing of the maps but their contracts.
+//! Callers of `Mapping`. They know only that ids are dense, and the contracts of the map.
 ghost use Rattle.std.specs.Prelude.{◌≡◌, ◌≢◌, ◌+◌, ◌<◌, ◌≤◌, ◌^◌, ◌-◌, ℕ, length, min, is_some};
 ghost use Rattle.std.specs.Prelude.{option_map, unwrap_or, Some, IfSome, IfNone, OnOk, OnErr, IsSomeAnd};
 ghost use Rattle.std.specs.Option.{ForSome};
@@ -8,7 +8,7 @@ ghost use Rattle.typed_ids.specs.TotalMaps.{IsUpdate};
 use id_storage::Mapping;
 use typed_ids::{DenseIndex, StoreError};
 
-/// An id with a value of at least so much, if there is one.
+/// An id whose value is at least `least`, if there is one.
 pub fn find_at_least<TId: DenseIndex>(mapping: &Mapping<TId, u32>, least: u32) -> Option<TId>
     ensures found { IfSome result (λ id. IsSomeAnd (value_at mapping.now (TId.index_of id)) (λ value. least ≤ value)) }
     ensures absent { IfNone result ((index : ℕ) → ForSome (value_at mapping.now index) (λ value. value < least)) }
@@ -21,7 +21,7 @@ pub fn find_at_least<TId: DenseIndex>(mapping: &Mapping<TId, u32>, least: u32) -
     None
 }
 
-/// Puts zero in the place of an id's value, if it has one.
+/// Sets an id's value to zero, if it has one.
 pub fn clear<TId: DenseIndex>(mapping: &mut Mapping<TId, u32>, id: TId)
     ensures { IsUpdate (value_at mapping.old) (TId.index_of id)
         (option_map (λ _. 0) (value_at mapping.old (TId.index_of id))) (value_at mapping.new) }
@@ -31,7 +31,7 @@ pub fn clear<TId: DenseIndex>(mapping: &mut Mapping<TId, u32>, id: TId)
     }
 }
 
-/// Counts an id once more, from 0 on.
+/// Adds one to an id's count, which begins at 0 and stays at 2^32 - 1.
 pub fn count_up<TId: DenseIndex>(mapping: &mut Mapping<TId, u32>, id: TId) -> Result<(), StoreError>
     ensures ok { OnOk result (value_at mapping.new (TId.index_of id) ≡
         Some (min (unwrap_or (value_at mapping.old (TId.index_of id)) 0 + 1) (2 ^ 32 - 1))) }
@@ -47,7 +47,7 @@ pub fn count_up<TId: DenseIndex>(mapping: &mut Mapping<TId, u32>, id: TId) -> Re
     Ok(())
 }
 
-/// Takes an id's value out and puts another one in, which takes no memory.
+/// Replaces an id's value, and answers the earlier one. It takes no memory.
 pub fn exchange<TId: DenseIndex>(
     mapping: &mut Mapping<TId, u32>,
     id: TId,

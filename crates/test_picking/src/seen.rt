@@ -49,7 +49,7 @@ pub(crate) struct Seen<A: Allocator> {
     pub(crate) queried: Solvables<A>,
     /// Those for which they were queried again. The search keeps what it is answered, so this is the check.
     pub(crate) again: Solvables<A>,
-    /// How often the provider was asked whether to stop.
+    /// How often the provider was queried whether to stop.
     pub(crate) questions: u32,
     /// How many of these questions came before dependencies were queried last.
     pub(crate) questions_before: u32,

@@ -5,9 +5,7 @@ use Rattle.std.proofs.Common.{refl, sym, subst, ap, ◌∙◌}
 use Rattle.std.specs.Prelude.{Result, Ok, Err, OnOk, OnErr, IfErr, MatchOption, option_map}
 use Rattle.std.specs.Bool.{beq}
 use Rattle.resolvo_ids.specs.Types.StoreError.{StoreError}
-use Rattle.resolvo_ids.specs.Types.StoreError.TheVariants.{UnknownId}
 use Rattle.resolvo_pool.specs.Types.Requirement.{Requirement}
-use Rattle.resolvo_pool.specs.Provider.{knows_requirement}
 use Rattle.resolvo_clauses.specs.Trail.{Entry, val}
 use Rattle.resolvo_queue.specs.declared.requires_clause.RequiresClause.{RequiresClause}
 use Rattle.resolvo_queue.specs.declared.offer.Offer.{Offer}
@@ -97,25 +95,6 @@ module _ {N S : Type 0} where
       → IfErr result (λ e. Step old (Load r) (Refused e) new) → new.requires ≡ old.requires
   load_keeps_clauses old new r (Ok x) kept refused = loaded_adds_no_clause old new r kept
   load_keeps_clauses old new r (Err e) kept refused = load_adds_no_clause old new r (Refused e) refused
-
-  -- a refused Load of a requirement that isn't known is refused as that
-  refused_as_unknown : (old new : Store N S) (r : Requirement) (e : StoreError) → Step old (Load r) (Refused e) new
-      → knows_requirement old.provider.universe r ≡ false → e ≡ UnknownId
-  refused_as_unknown old new r e step unknown =
-      by_test (knows_requirement old.provider.universe r) unknown step
-    where
-      by_test : (b : Bool) → b ≡ false
-          → MatchOption (option_map (λ (x : Bool × StoreError). x.1) (cond (not b) (Some (not b, UnknownId)) None))
-          (IsAnswered old (Load r) (Refused e) new) (λ y. (Refused e ≡ Refused y) × (new ≡ old)) → e ≡ UnknownId
-      by_test true h s = cc
-      by_test false h s = (let same : Refused e ≡ Refused UnknownId = s.0 in cc)
-
-  pub unknown_is_refused : {T : Type 0} (old new : Store N S) (r : Requirement) (result : Result T StoreError)
-      → OnOk result (knows_requirement old.provider.universe r ≡ true) →
-      IfErr result (λ e. Step old (Load r) (Refused e) new)
-      → knows_requirement old.provider.universe r ≡ false → result ≡ Err UnknownId
-  unknown_is_refused old new r (Ok x) known refused unknown = (let no : true ≡ false = sym known ∙ unknown in cc)
-  unknown_is_refused old new r (Err e) known refused unknown = ap Err (refused_as_unknown old new r e refused unknown)
 
   -- ---- clauses and decisions
 

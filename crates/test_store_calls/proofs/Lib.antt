@@ -3,6 +3,5 @@ pub mod ClauseLaws
 pub mod ExampleProofs
 pub mod LoadLaws
 pub mod PlayLaws
-pub mod SaturatingLaws
 pub mod SaturationProofs
 pub mod StayingLaws

@@ -1,7 +1,7 @@
 //! Callers of the clause store as who embeds it writes them: they know nothing of the provider but its traits, and
 //! nothing of the store but its contracts, from which alone they are proved. Each item and definition is named through
 //! a crate for users: `resolvo_ids`, `resolvo_pool`, `resolvo_clauses`, `resolvo_queue` and `resolvo_store`.
-//! docs/SEARCH.md and docs/CLAUSES.md quote `requirement_callers` and `searching`, a small search.
+//! docs/CLAUSES.md quotes `requirement_callers`, and docs/SEARCH.md names `searching`, a small search.
 //!
 //! Beside them are worked examples that the checker computes from the definitions (`computed`); the program
 //! `test_examples` runs the same examples.

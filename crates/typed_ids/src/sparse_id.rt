@@ -7,8 +7,8 @@ use std::fmt;
 use std::hash::{BuildHasherDefault, DefaultHasher};
 use std::marker::{Model, PhantomData};
 
-/// A sparse id of the domain that `Tag` names, kept as a `Repr`. Tables that are kept by it hash by `H`. A contract
-/// sees the raw number.
+/// A sparse id of the domain that `Tag` names, stored as a `Repr`. Hash tables with such keys use the hasher `H`. In a
+/// contract the id is its raw number.
 #[derive_where(Clone, Copy, PartialEq, Eq, Hash; Repr)]
 pub struct SparseId<Tag, Repr = u32, H = BuildHasherDefault<DefaultHasher>> {
     raw: Repr,
@@ -43,7 +43,7 @@ impl<Tag, Repr: Copy, H> SparseId<Tag, Repr, H> {
     }
 }
 
-/// Writes as the raw number does.
+/// Writes the raw number.
 impl<Tag, Repr: fmt::Debug, H> fmt::Debug for SparseId<Tag, Repr, H> {
     ghost debug_output = { λ a. Repr.debug_output a };
 

@@ -1,5 +1,5 @@
 use Rattle.resolvo_store.specs.Store.{Provider, store_of, gathered}
-use Rattle.test_store_calls.proofs.AnswerLaws.{load_keeps_clauses, unknown_is_refused}
+use Rattle.test_store_calls.proofs.AnswerLaws.{load_keeps_clauses}
 use Rattle.test_store_calls.proofs.requirement_callers.load.Given.{Over}
 use Rattle.test_store_calls.proofs.requirement_callers.load.Goals as goal
 

@@ -1,0 +1,217 @@
+-- What is demanded of the packages that are there, by the groups of a field.
+use Rattle.std.proofs.Common.{◌≡◌, ◌∙◌, ℕ, zero, suc, ◌<◌, ◌==◌, ◌&&◌, not, Bool, true, false, cond, List, [], ◌∷◌}
+use Rattle.std.proofs.Common.{◌++◌, Option}
+use Rattle.std.proofs.Common.{None, Some, get_or, length, filter, ap, arith, refl, subst, sym}
+use Rattle.std.specs.Prelude.{All, Any, Contains, MatchBool, slice_get, unwrap_or, Result, Ok, Err, IfOk}
+use Rattle.std.specs.List.{list_all, list_any, slice_split}
+use Rattle.std.proofs.lemmas.Bool.{and_from, and_parts, false≢true}
+use Rattle.std.proofs.lemmas.List.Elements.{All-push, All-weaker}
+use Rattle.std.proofs.lemmas.List.Folds.{Any-from_list_any}
+use Rattle.std.proofs.lemmas.List.Sums.{AllPass-from_list_all}
+use Rattle.std.proofs.lemmas.Option.{slice_get-get_or}
+use Rattle.debian_text.specs.Relations.{RelationText, relation_of}
+use Rattle.debian_scenario.specs.Packages.{PackageText}
+use Rattle.debian_installable.specs.Fields.{alternatives, groups, is_blank}
+use Rattle.debian_installable.specs.Installable.{architecture_of, is_group_met, is_met, is_met_by, is_served, means}
+use Rattle.debian_installable.specs.Installable.{serves}
+use Rattle.debian_installable.specs.Installable.{are_free, are_met, is_free, stand_together}
+use Rattle.debian_directory.specs.declared.rules.Rules.{Rules}
+use Rattle.resolvo_ids.specs.Types.VersionSetId.{VersionSetId}
+use Rattle.resolvo_pool.specs.Pool.{IsLater}
+use Rattle.resolvo_pool.specs.PoolIds.{universe_in}
+use Rattle.resolvo_pool.specs.Provider.{sets_of}
+use Rattle.resolvo_pool.specs.Types.ConditionalRequirement.{ConditionalRequirement}
+use Rattle.resolvo_pool.specs.Types.Requirement.{Requirement}
+use Rattle.resolvo_pool.specs.Types.Requirement.TheVariants.{Single, Union}
+use Rattle.debian_provider.specs.Answers.{Ids}
+use Rattle.debian_provider.specs.Growing.{IsGrown, native_in, packages_in}
+use Rattle.debian_provider.specs.Needs.{AreDemanded, AreFreeFor, AreMetFor, IsDemand, IsGroupMetFor, IsGroupOffered}
+use Rattle.debian_provider.specs.Needs.{IsMeant}
+use Rattle.debian_provider.specs.Needs.{IsNowhere, IsOffered, IsPartFreeFor, IsThere}
+use Rattle.debian_provider.specs.Needs.{sets_in}
+use Rattle.debian_provider.specs.Sets.{Meeting, has}
+use Rattle.debian_provider.specs.declared.archive.Archive.{Archive}
+use Rattle.debian_provider.proofs.Named.{set_still}
+use Rattle.debian_provider.proofs.Versions.{still_at}
+
+-- LISTS
+
+rest_pass : {X : Type 0} (b : Bool) (p : X → Bool) (x : X) (ys : List X) → list_all p (cond b (x ∷ ys) ys) ≡ true
+    → list_all p ys ≡ true
+rest_pass true p x ys h = (and_parts _ _ h).1
+rest_pass false p x ys h = h
+
+-- all that a filter keeps pass a test: so does an element that it keeps
+pub passes_at : {X : Type 0} (f p : X → Bool) (xs : List X) (k : ℕ) (d : X) → list_all p (filter f xs) ≡ true
+    → k < length xs → f (get_or xs k d) ≡ true → p (get_or xs k d) ≡ true
+passes_at f p [] k d h lt holds = absurd (omega arith)
+passes_at f p (x ∷ xs) zero d h lt holds =
+    (and_parts _ _ (subst (λ (b : Bool). list_all p (cond b (x ∷ filter f xs) (filter f xs)) ≡ true) holds h)).0
+passes_at f p (x ∷ xs) (suc k) d h lt holds =
+    passes_at f p xs k d (rest_pass (f x) p x (filter f xs) h) (omega arith) holds
+
+pub passes : {X : Type 0} (p : X → Bool) (xs : List X) (x : X) → list_all p xs ≡ true → Contains xs x → p x ≡ true
+passes p xs x h in' = subst (λ y. p y ≡ true) in'.2 (AllPass-from_list_all p xs h in'.0 x in'.1)
+
+pub contains_none : {X : Type 0} (x : X) → Contains [] x → ⊥
+contains_none x h = absurd (omega (arith, h.1))
+
+-- THE PARTS OF BEING THERE
+
+pub four_parts : (a b c d : Bool) → (a && b && c && d) ≡ true → (a ≡ true) × (b ≡ true) × (c ≡ true) × (d ≡ true)
+four_parts true true true true h = (refl, refl, refl, refl)
+four_parts true true true false h = cc
+four_parts true true false d h = cc
+four_parts true false c d h = cc
+four_parts false b c d h = cc
+
+module _ (rules : Rules) (one : PackageText) (there : List PackageText) (is : IsThere rules one there) where
+  pub standing : stand_together (native_in rules) there ≡ true
+  standing = (and_parts _ _ is.installable).0
+
+  served : is_served (native_in rules) there one ≡ true
+  served = passes (is_served (native_in rules) there) there one (and_parts _ _ is.installable).1 is.contains
+
+  abbrev Parts : Type 0
+  Parts = (are_met (native_in rules) there one one.relations.pre_depends ≡ true)
+      × (are_met (native_in rules) there one one.relations.depends ≡ true)
+      × (are_free (native_in rules) there one one.relations.conflicts ≡ true)
+      × (are_free (native_in rules) there one one.relations.breaks ≡ true)
+
+  pub parts : Parts
+  parts = four_parts _ _ _ _ served
+
+-- WHAT MEETS A GROUP IS MEANT
+
+module _ (rules : Rules) (pool : Ids) (one : PackageText) (sets : List VersionSetId) (there : List PackageText)
+    (is : IsThere rules one there) where
+  relation_meant : (r : Option RelationText) → IsOffered rules pool one sets r
+      → is_met (native_in rules) there one r ≡ true → Any (IsMeant rules pool sets) there
+  relation_meant None offered h = absurd (false≢true h)
+  relation_meant (Some r) offered h =
+      let found = Any-from_list_any (is_met_by (native_in rules) one r) there h in
+      let q = found.1 in
+      let known : Contains (packages_in rules) q =
+      subst (Contains (packages_in rules)) found.3 (is.known found.0 q found.2) in
+      let at : slice_get (packages_in rules) known.0 ≡ Some q =
+      slice_get-get_or (packages_in rules) known.0 q known.1 ∙ ap Some known.2 in
+      let met = and_parts (means r q) (serves (native_in rules) one q r.qualifier) found.4 in
+      let holds : has (native_in rules) (Meeting r (architecture_of (native_in rules) one)) q ≡ true =
+      and_from _ _ met.1 met.0 in (
+        found.0,
+        q,
+        found.2,
+        found.3,
+        (Meeting r (architecture_of (native_in rules) one), offered known.0 q at holds, holds),
+      )
+
+  pub group_meant : (group : List ℕ) → IsGroupOffered rules pool one sets group
+      → is_group_met (native_in rules) there one group ≡ true → Any (IsMeant rules pool sets) there
+  group_meant group offered h =
+      let found = Any-from_list_any (λ part. is_met (native_in rules) there one (relation_of part)) (alternatives group)
+      h in
+      relation_meant (relation_of found.1)
+      (subst (λ (part : List ℕ). IsOffered rules pool one sets (relation_of part)) found.3
+      (offered found.0 found.1 found.2)) found.4
+
+module _ (rules : Rules) (pool : Ids) (one : PackageText) (group : List ℕ) (met : (there : List PackageText)
+    → IsThere rules one there → is_group_met (native_in rules) there one group ≡ true) where
+  pub group_demand : (requirement : Requirement)
+      → IsGroupOffered rules pool one (sets_of (universe_in pool) requirement) group
+      → IsDemand rules pool (IsThere rules one) (record { condition = None; requirement = requirement })
+  group_demand requirement offered = (
+    refl,
+    λ there is. group_meant rules pool one (sets_of (universe_in pool) requirement) there is group offered
+        (met there is),
+  )
+
+  pub group_nowhere : IsGroupOffered rules pool one [] group → IsNowhere rules one
+  group_nowhere offered there is =
+      let found = group_meant rules pool one [] there is group offered (met there is) in
+      contains_none found.4.1.0 found.4.1.1
+
+-- DEMANDS STAY
+
+module _ (p q : Ids) (later : IsLater p q) where
+  union_later : (v : VersionSetId) (o r : Option (List VersionSetId))
+      → ((sets : List VersionSetId) → o ≡ Some sets → r ≡ Some sets) → Contains (unwrap_or o []) v
+      → Contains (unwrap_or r []) v
+  union_later v None r each h = absurd (contains_none v h)
+  union_later v (Some sets) r each h =
+      subst (λ (o : Option (List VersionSetId)). Contains (unwrap_or o []) v) (sym (each sets refl)) h
+
+  set_later : (v : VersionSetId) (r : Requirement) → Contains (sets_of (universe_in p) r) v
+      → Contains (sets_of (universe_in q) r) v
+  set_later v (Single w) h = h
+  set_later v (Union u) h = union_later v (slice_get p.unions u.0) (slice_get q.unions u.0)
+      (λ sets. still_at p.unions q.unions u.0 sets later.unions) h
+
+  module _ (rules : Rules) where
+    meant_later : (r : Requirement) (one : PackageText) → IsMeant rules p (sets_of (universe_in p) r) one
+        → IsMeant rules q (sets_of (universe_in q) r) one
+    meant_later r one h =
+        (h.0, (h.1.0, set_later h.1.0 r h.1.1, set_still p q later h.1.0 _ _ h.1.2), h.2)
+
+    pub demand_later : (IsSuch : List PackageText → Type 0) (c : ConditionalRequirement) → IsDemand rules p IsSuch c
+        → IsDemand rules q IsSuch c
+    demand_later IsSuch c h = (
+      h.0,
+      λ there is. let found = h.1 there is in
+          (found.0, found.1, found.2, found.3, meant_later c.requirement found.1 found.4),
+    )
+
+module _ (old new : Archive) (grown : IsGrown old new) (one : PackageText) (requirements : List ConditionalRequirement)
+  where
+    abbrev InNew : Rules → List ConditionalRequirement → Type 0
+    InNew rules more = All (IsDemand rules new.reached.pool (IsThere rules one)) more
+
+    still : All (IsDemand old.rules old.reached.pool (IsThere old.rules one)) requirements
+        → InNew old.rules requirements
+    still = All-weaker (IsDemand old.rules old.reached.pool (IsThere old.rules one))
+        (IsDemand old.rules new.reached.pool (IsThere old.rules one))
+        (demand_later old.reached.pool new.reached.pool grown.later old.rules (IsThere old.rules one)) requirements
+
+    pub demanded_still : AreDemanded old new one requirements requirements
+    demanded_still h = subst (λ (r : Rules). InNew r requirements) (sym grown.rules) (still h)
+
+    pub demanded_more : (c : ConditionalRequirement) → IsDemand old.rules new.reached.pool (IsThere old.rules one) c
+        → AreDemanded old new one requirements (requirements ++ c ∷ [])
+    demanded_more c more h = subst (λ (r : Rules). InNew r (requirements ++ c ∷ [])) (sym grown.rules)
+        (All-push (IsDemand old.rules new.reached.pool (IsThere old.rules one)) requirements c (still h) more)
+
+-- THE GROUPS AND PARTS OF A FIELD
+
+not_blank : (text : List ℕ) → is_blank text ≡ false → not (is_blank text) ≡ true
+not_blank text fails = ap not fails
+
+-- the part at a place of a field's parts
+abbrev pub IsPartAt : List ℕ → ℕ → List ℕ → Type 0
+IsPartAt field k part =
+    (k < length (slice_split (λ b. b == 44) field)) × (part ≡ get_or (slice_split (λ b. b == 44) field) k part)
+
+part_passes : (p : List ℕ → Bool) (field part : List ℕ) (k : ℕ) → IsPartAt field k part
+    → list_all p (groups field) ≡ true → is_blank part ≡ false → p part ≡ true
+part_passes p field part k at all fails =
+    let parts = slice_split (λ b. b == 44) field in
+    ap p at.1 ∙ passes_at (λ part. not (is_blank part)) p parts k part all at.0
+    (ap (λ part. not (is_blank part)) (sym at.1) ∙ not_blank part fails)
+
+module _ (rules : Rules) (one : PackageText) (field part : List ℕ) (k : ℕ) (at : IsPartAt field k part) where
+  pub group_met_for : AreMetFor rules one field → IsGroupMetFor rules one part
+  group_met_for met fails there is =
+      part_passes (is_group_met (native_in rules) there one) field part k at (met there is) fails
+
+  pub part_free_for : AreFreeFor rules one field → IsPartFreeFor rules one part
+  part_free_for free fails there is =
+      part_passes (λ part. is_free (native_in rules) there one (relation_of part)) field part k at (free there is) fails
+
+-- WHAT CAN BE READ
+
+pub readable_then : (readable : Bool) (A B C D : Type 0) → (A → C) → (B → D) → MatchBool readable A B
+    → MatchBool readable C D
+readable_then true A B C D f g h = f h
+readable_then false A B C D f g h = g h
+
+pub if_ok : {T E : Type 0} (r : Result T E) (P Q : T → Type 0) → ((t : T) → P t → Q t) → IfOk r P → IfOk r Q
+if_ok (Ok t) P Q f p = f t p
+if_ok (Err e) P Q f p = p

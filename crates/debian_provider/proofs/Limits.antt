@@ -1,0 +1,151 @@
+-- What may not be there beside a package, by its conflicts and its name.
+use Rattle.std.proofs.Common.{◌≡◌, ◌∙◌, ℕ, zero, suc, ◌<◌, ◌&&◌, ◌||◌, not, Bool, true, false, cond, List, [], ◌∷◌}
+use Rattle.std.proofs.Common.{◌++◌}
+use Rattle.std.proofs.Common.{None, Some, get_or, length, ap, ap₂, arith, inl, inr, refl, subst, sym}
+use Rattle.std.specs.Prelude.{All, Contains}
+use Rattle.std.specs.List.{list_all}
+use Rattle.std.specs.Str.{bytes_eq}
+use Rattle.std.proofs.lemmas.Bool.{and_from, and_parts, cases_order, false≢true, or_cases}
+use Rattle.std.proofs.lemmas.List.{get_or_read}
+use Rattle.std.proofs.lemmas.List.Elements.{All-push, All-weaker}
+use Rattle.std.proofs.lemmas.List.Sums.{AllPass-from_list_all}
+use Rattle.std.proofs.lemmas.Slice.Eq.{bytes_eq-Decides}
+use Rattle.debian_text.specs.Relations.{RelationText}
+use Rattle.debian_scenario.specs.Packages.{PackageText}
+use Rattle.debian_installable.specs.Installable.{architecture_of, have_one_architecture, have_one_name, is_concerned}
+use Rattle.debian_installable.specs.Installable.{is_free_of, is_same, may_stand_beside, means, stand_together}
+use Rattle.debian_directory.specs.Answers.{NameText, name_of}
+use Rattle.debian_directory.specs.declared.rules.Rules.{Rules}
+use Rattle.resolvo_ids.specs.Types.VersionSetId.{VersionSetId}
+use Rattle.resolvo_pool.specs.Pool.{IsLater}
+use Rattle.debian_provider.specs.Answers.{Ids}
+use Rattle.debian_provider.specs.Growing.{IsGrown, native_in}
+use Rattle.debian_provider.specs.Meaning.{IsEntry, IsNamed, IsSet}
+use Rattle.debian_provider.specs.Needs.{AreLimited, IsFreeFor, IsLimit, IsThere, Spares, SparesOther}
+use Rattle.debian_provider.specs.Sets.{SetText, Beside, Spared, beside, has}
+use Rattle.debian_provider.specs.declared.archive.Archive.{Archive}
+use Rattle.debian_provider.proofs.Demands.{four_parts, passes, standing}
+use Rattle.debian_provider.proofs.Named.{default, is_set, same_bytes, set_still}
+
+-- CONFLICTS
+
+not_swapped : (a b : Bool) → not (a && b) ≡ true → not (b && a) ≡ true
+not_swapped true true h = h
+not_swapped true false h = refl
+not_swapped false true h = refl
+not_swapped false false h = refl
+
+module _ (native : List ℕ) (one other : PackageText) where
+  same_name : bytes_eq one.identity.name other.identity.name ≡ true
+      → have_one_architecture native one other ≡ true → name_of native one ≡ name_of native other
+  same_name n a = ap₂ (λ (x y : List ℕ). record { name = x; architecture = y })
+      (same_bytes one.identity.name other.identity.name n)
+      (same_bytes (architecture_of native one) (architecture_of native other) a)
+
+  spared : (r : RelationText) → (name_of native one ≡ name_of native other → ⊥)
+      → is_free_of native one r other ≡ true → has native (Spared r) other ≡ true
+  spared r apart h = elim (or_cases _ _ h) [
+    | inl same ↦ let both = and_parts _ _ same in absurd (apart (same_name both.0 both.1))
+    | inr free ↦ not_swapped (means r other) (is_concerned native other r.qualifier) free
+  ]
+
+pub spares_conflict : (rules : Rules) (one other : PackageText) (own : NameText) → own ≡ name_of (native_in rules) one
+    → (r : RelationText) → IsFreeFor rules one r → SparesOther rules one own other (Spared r)
+spares_conflict rules one other own is r free apart there is_there q in' named =
+    spared (native_in rules) one q r (λ same. apart (sym named ∙ sym same ∙ sym is))
+    (passes (is_free_of (native_in rules) one r) there q (free there is_there) in')
+
+-- OTHER ARCHITECTURES
+
+stand_at : (native : List ℕ) (there : List PackageText) (i j : ℕ) (d e : PackageText)
+    → stand_together native there ≡ true → i < j → j < length there → may_stand_beside native (get_or there i d)
+    (get_or there j e) ≡ true
+stand_at native [] i j d e h lt in' = absurd (omega arith)
+stand_at native (p ∷ rest) i zero d e h lt in' = absurd (omega arith)
+stand_at native (p ∷ rest) zero (suc j) d e h lt in' =
+    AllPass-from_list_all (may_stand_beside native p) rest (and_parts _ _ h).0 j e (omega arith)
+stand_at native (p ∷ rest) (suc i) (suc j) d e h lt in' =
+    stand_at native rest i j d e (and_parts _ _ h).1 (omega arith) (omega arith)
+
+not_holds : (b : Bool) → b ≡ true → not b ≡ true → ⊥
+not_holds true holds h = false≢true h
+not_holds false holds h = false≢true holds
+
+reflexive : (text : List ℕ) → bytes_eq text text ≡ true
+reflexive text = (bytes_eq-Decides text text).1 refl
+
+module _ (native : List ℕ) where
+  -- what it means that packages of one name stand beside each other
+  beside_parts : (p q : PackageText) → have_one_name p q ≡ true → may_stand_beside native p q ≡ true
+      → (is_same p.multi_arch ≡ true) × (is_same q.multi_arch ≡ true) × (p.identity.version ≡ q.identity.version)
+  beside_parts p q name h = elim (or_cases _ _ h) [
+    | inl fails ↦ absurd (not_holds (have_one_name p q) name fails)
+    | inr holds ↦ let four = four_parts _ _ _ _ holds in
+        (four.0, four.1, same_bytes p.identity.version q.identity.version four.2)
+  ]
+
+  beside_has : (one q : PackageText) → is_same one.multi_arch ≡ true → is_same q.multi_arch ≡ true
+      → one.identity.version ≡ q.identity.version → has native (beside one) q ≡ true
+  beside_has one q same also version =
+      subst (λ (b : Bool). has native (Beside (cond b (Some one.identity.version) None)) q ≡ true) (sym same)
+      (and_from _ _ also (subst (λ (v : List ℕ). bytes_eq q.identity.version v ≡ true) (sym version)
+      (reflexive q.identity.version)))
+
+  beside_at : (there : List PackageText) (one q : PackageText) → stand_together native there ≡ true
+      → Contains there one → Contains there q → (one ≡ q → ⊥) → one.identity.name ≡ q.identity.name
+      → has native (beside one) q ≡ true
+  beside_at there one q h a b apart name =
+      let forth : have_one_name one q ≡ true =
+      subst (λ (n : List ℕ). bytes_eq one.identity.name n ≡ true) name (reflexive one.identity.name) in
+      let back : have_one_name q one ≡ true =
+      subst (λ (n : List ℕ). bytes_eq n one.identity.name ≡ true) name (reflexive one.identity.name) in
+      elim (cases_order a.0 b.0) [
+        | inl same ↦ absurd (apart (sym a.2 ∙ ap (λ k. get_or there k one) same ∙ default there b.0 one q b.1 ∙ b.2))
+        | inr other ↦ elim other [
+          | inl lt ↦
+              let w = beside_parts one q forth (subst (λ x. may_stand_beside native x q ≡ true) a.2
+              (subst (λ y. may_stand_beside native (get_or there a.0 one) y ≡ true) b.2
+              (stand_at native there a.0 b.0 one q h lt b.1))) in
+              beside_has one q w.0 w.1 w.2
+          | inr gt ↦
+              let w = beside_parts q one back (subst (λ x. may_stand_beside native x one ≡ true) b.2
+              (subst (λ y. may_stand_beside native (get_or there b.0 q) y ≡ true) a.2
+              (stand_at native there b.0 a.0 q one h gt a.1))) in
+              beside_has one q w.1 w.0 (sym w.2)
+        ]
+      ]
+
+pub spares_beside : (rules : Rules) (one other : PackageText) (own : NameText) → own ≡ name_of (native_in rules) one
+    → other.identity.name ≡ one.identity.name → SparesOther rules one own other (beside one)
+spares_beside rules one other own is name apart there is_there q in' named =
+    beside_at (native_in rules) there one q (standing rules one there is_there) is_there.contains in'
+    (λ same. apart (sym named ∙ ap (name_of (native_in rules)) (sym same) ∙ sym is))
+    (sym name ∙ sym (ap (λ (n : NameText). n.name) named))
+
+-- LIMITS STAY
+
+module _ (old new : Archive) (grown : IsGrown old new) (one : PackageText) (constrains : List VersionSetId) where
+  abbrev InNew : Rules → List VersionSetId → Type 0
+  InNew rules more = All (IsLimit rules new.reached.pool one) more
+
+  limit_later : (v : VersionSetId) → IsLimit old.rules old.reached.pool one v → IsLimit old.rules new.reached.pool one v
+  limit_later v h = (h.0, h.1, set_still old.reached.pool new.reached.pool grown.later v h.0 h.1 h.2, h.3)
+
+  still : All (IsLimit old.rules old.reached.pool one) constrains → InNew old.rules constrains
+  still = All-weaker (IsLimit old.rules old.reached.pool one) (IsLimit old.rules new.reached.pool one) limit_later
+      constrains
+
+  pub limited_still : AreLimited old new one constrains constrains
+  limited_still h = subst (λ (r : Rules). InNew r constrains) (sym grown.rules) (still h)
+
+  pub limited_more : (v : VersionSetId) → IsLimit old.rules new.reached.pool one v
+      → AreLimited old new one constrains (constrains ++ v ∷ [])
+  limited_more v more h = subst (λ (r : Rules). InNew r (constrains ++ v ∷ [])) (sym grown.rules)
+      (All-push (IsLimit old.rules new.reached.pool one) constrains v (still h) more)
+
+-- a version set of a name that spares what is there beside a package
+pub limit_by : (p q : Ids) → IsLater p q → (id : ℕ) (name : NameText) (set : SetText) (v : VersionSetId)
+    → IsNamed p id name → IsEntry q v id set → (rules : Rules) (one : PackageText) → Spares rules one name set →
+    IsLimit rules q one v
+limit_by p q later id name set v named entry rules one spares =
+    (name, set, is_set p q later id name set v named entry, spares)

@@ -1,0 +1,12 @@
+use Rattle.std.proofs.Common.{Option, subst}
+use Rattle.std.specs.Prelude.{OnOk}
+use Rattle.debian_text.specs.Relations.{RelationText}
+use Rattle.debian_scenario.specs.Plain.{plain_package}
+use Rattle.debian_provider.specs.Needs.{IsOffered}
+use Rattle.debian_provider.proofs.archive.Archive.add_alternative.Goals as goal
+
+pub returns-clause-offered : goal.returns-clause-offered
+returns-clause-offered c =
+    subst (λ (relation : Option RelationText). OnOk c.add_meeting.result (IsOffered c.add_meeting.new.self.rules
+    c.add_meeting.new.self.reached.pool (plain_package c.args.one.now) c.add_meeting.new.sets.items relation))
+    c.in-Some.ensures c.add_meeting.ensures.offered

@@ -1,0 +1,12 @@
+use Rattle.debian_scenario.specs.Plain.{plain_package}
+use Rattle.debian_provider.specs.Growing.{IsGrown}
+use Rattle.debian_provider.specs.Needs.{AreDemanded, AreMetFor}
+use Rattle.debian_provider.proofs.archive.Archive.add_required.Given as goal
+
+-- so of what was read so far
+abbrev pub invariant-loop-group : goal.invariant-loop-group
+invariant-loop-group l = record {
+  grown : IsGrown l.fn.self l.self;
+  needs : AreMetFor l.fn.self.rules (plain_package l.one) l.field →
+      AreDemanded l.fn.self l.self (plain_package l.one) l.fn.requirements.items l.requirements.items;
+}
