@@ -1,7 +1,7 @@
 -- What is in the pool stays in it.
-use Rattle.std.proofs.Common.{◌≡◌, ℕ, zero, suc, ◌<◌, ◌≤◌, Bool, true, false, cond}
+use Rattle.std.proofs.Common.{◌≡◌, ℕ, zero, suc, ◌+◌, ◌<◌, ◌≤◌, Bool, true, false, cond}
 use Rattle.std.proofs.Common.{List, [], ◌∷◌, ◌++◌, length, arith}
-use Rattle.std.specs.Prelude.{nat_lt}
+use Rattle.std.specs.Prelude.{nat_lt, All}
 use Rattle.std.specs.declared.vec.Vec.{Vec}
 use Rattle.std.proofs.lemmas.Bool.{lt-ltb, ltb-true}
 use Rattle.std.proofs.lemmas.List.{length-append}
@@ -32,6 +32,13 @@ module _ {A : Type 0} where
   known_pushed pool [] new known here (suc n) = All-nil (λ s. nat_lt s (length pool.solvables) ≡ true)
   known_pushed pool (v ∷ vs) new known here zero = known zero
   known_pushed pool (v ∷ vs) new known here (suc n) = known_pushed pool vs new (λ m. known (suc m)) here n
+
+  -- if they were pushed
+  pub known_if_pushed : (pool : Ids) (pushed : Bool) (versions : List (Vec ℕ A)) (new : Vec ℕ A) → AreKnown pool
+      versions
+      → AreHere pool new.items → AreKnown pool (cond pushed (versions ++ new ∷ []) versions)
+  known_if_pushed pool true versions new known here = known_pushed pool versions new known here
+  known_if_pushed pool false versions new known here = known
 
 longer : {X : Type 0} (found : Bool) (xs : List X) (x : X) → length xs ≤ length (cond found xs (xs ++ x ∷ []))
 longer true xs x = omega arith

@@ -1,1 +1,12 @@
+pub mod Demands
 pub mod Growing
+pub mod Later
+pub mod Limits
+pub mod More
+pub mod Named
+pub mod Offered
+pub mod Picks
+pub mod SameSets
+pub mod Versions
+pub mod Wants
+pub mod Wider

@@ -1,5 +1,5 @@
 -- Which versions of a name a set has.
-use Rattle.std.specs.Prelude.{ℕ, ◌&&◌, not, Bool, true, false, List, Option, None, Some, option_map}
+use Rattle.std.specs.Prelude.{ℕ, ◌&&◌, not, Bool, true, false, List, Option, None, Some, option_map, if◌then◌else◌}
 use Rattle.std.specs.Str.{bytes_eq}
 use Rattle.debian_text.specs.Plain.{plain_relation}
 use Rattle.debian_text.specs.Relations.{RelationText}
@@ -38,3 +38,7 @@ module _ (native : List ℕ) where
   has (Spared relation) p = not (is_against relation p)
   has (Beside None) p = false
   has (Beside (Some version)) p = is_same p.multi_arch && bytes_eq p.identity.version version
+
+-- the versions of p's name that may stand beside it in other architectures
+abbrev pub beside : PackageText → SetText
+beside p = Beside (if is_same p.multi_arch then Some p.identity.version else None)

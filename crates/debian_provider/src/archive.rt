@@ -1,5 +1,5 @@
 //! The provider's data.
-ghost use Rattle.std.specs.Prelude.{◌≡◌, ◌++◌, IfOk};
+ghost use Rattle.std.specs.Prelude.{◌≡◌, ◌≤◌, [], ◌++◌, length, IfOk, OnOk};
 ghost use Rattle.std.specs.Option.{option_copied};
 
 use crate::reached::Reached;
@@ -30,15 +30,33 @@ pub struct Archive<'s, 't> {
 
 impl<'s, 't> Archive<'s, 't> {
     ghost use Rattle.debian_provider.specs.Answers.{package_in};
+    ghost use Rattle.debian_provider.specs.Growing.{AreNamed};
+    ghost use Rattle.debian_provider.specs.Reading.{IsWhole, IsWider};
 
     /// The provider of a scenario.
-    pub fn new(alloc: Global, rules: Rules<'s, 't>) -> Result<Archive<'s, 't>, StoreError> {
+    pub fn new(alloc: Global, rules: Rules<'s, 't>) -> Result<Archive<'s, 't>, StoreError>
+        ensures rules { IfOk result (λ archive. archive.rules ≡ rules.entry) }
+        ensures whole { IfOk result IsWhole }
+    {
+        match Archive::of_nothing(alloc, rules) {
+            Ok(archive) => archive.filled(),
+            Err(refused) => Err(refused),
+        }
+    }
+
+    /// The provider before anything was reached.
+    fn of_nothing(alloc: Global, rules: Rules<'s, 't>) -> Result<Archive<'s, 't>, StoreError>
+        ensures rules { IfOk result (λ archive. archive.rules ≡ rules.entry) }
+        ensures named { IfOk result (λ archive. AreNamed archive.rules archive.reached) }
+        ensures unread { IfOk result (λ archive. archive.needs.items ≡ []) }
+        ensures free { IfOk result (λ archive. archive.requirements.items ≡ []) }
+    {
         let mut reached = Reached::new(alloc);
         let unreadable = reached.add_string(String::from_str(
             alloc,
             "its relations can't be read",
         )?)?;
-        let mut archive = Archive {
+        Ok(Archive {
             alloc,
             rules,
             reached,
@@ -47,18 +65,29 @@ impl<'s, 't> Archive<'s, 't> {
             requirements: Vec::new(alloc),
             kept: Vec::new(alloc),
             unreadable,
-        };
-        match archive.fill() {
-            Ok(()) => Ok(archive),
+        })
+    }
+
+    /// The provider with all that is reached in it.
+    fn filled(mut self) -> Result<Archive<'s, 't>, StoreError>
+        ensures wider { IfOk result (IsWider self.entry) }
+        ensures closed { IfOk result (λ archive.
+            length archive.reached.pool.solvables ≤ length archive.needs.items) }
+    {
+        match self.fill() {
+            Ok(()) => Ok(self),
             Err(refused) => {
-                drop(archive);
+                drop(self);
                 Err(refused)
             }
         }
     }
 
     /// Brings in what is requested, what is installed, and all that these reach.
-    fn fill(&mut self) -> Result<(), StoreError> {
+    fn fill(&mut self) -> Result<(), StoreError>
+        ensures wider { OnOk result (IsWider self.old self.new) }
+        ensures closed { OnOk result (length self.new.reached.pool.solvables ≤ length self.new.needs.items) }
+    {
         self.add_requested()?;
         self.add_kept()?;
         self.read_reached()

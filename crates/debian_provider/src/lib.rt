@@ -9,6 +9,7 @@
 #![tactic(auto)]
 
 mod archive;
+mod interning;
 mod meeting;
 mod needs;
 mod provider;

@@ -1,4 +1,4 @@
-//! What the scenario answers as an interner, and as a provider.
+//! The archive as an interner and as a provider.
 ghost use Rattle.std.specs.Prelude.{◌≡◌, [], ◌++◌, None, IfOk, IfErr, OnOk, OnErr};
 ghost use Rattle.std.specs.Option.{option_copied};
 ghost use Rattle.std.specs.Str.Lossy.{utf8_lossy};
@@ -20,7 +20,7 @@ use resolvo_pool::{
 };
 use std::alloc::Global;
 
-/// The ids are the pool's, and so are the laws of them.
+/// The ids are those of the pool, and the laws of ids are the pool's laws.
 impl Interner for Archive<'_, '_> {
     ghost use Rattle.resolvo_pool.specs.PoolIds.{universe_in};
     ghost use Rattle.resolvo_pool.specs.PoolLaws.{pool_solvable_names, pool_set_names, pool_union_sets, pool_operands};
@@ -106,7 +106,7 @@ impl Interner for Archive<'_, '_> {
     }
 }
 
-/// Appends bytes, with a sign for what is no text.
+/// Appends bytes as a text, in which U+FFFD stands for what isn't UTF-8.
 fn append_bytes(out: &mut String, bytes: &[u8]) -> Result<(), StoreError>
     ensures ok { OnOk result (IsAppended out.old out.new (utf8_lossy bytes.now)) }
     ensures err { OnErr result (IsSameText out.old out.new) }
@@ -206,7 +206,7 @@ impl Archive<'_, '_> {
         }
     }
 
-    /// The solvables whose packages the set has, or, if `inverse`, the others.
+    /// Filters solvables: those whose packages the set has, or, if `inverse`, the others.
     fn within(
         &self,
         alloc: Global,
@@ -240,7 +240,7 @@ impl Archive<'_, '_> {
     }
 }
 
-/// A copy.
+/// A copy of what a version needs and forbids.
 fn copy(alloc: Global, known: &KnownDependencies) -> Result<KnownDependencies, StoreError>
     ensures requirements { IfOk result (λ copy. copy.requirements.items ≡ known.now.requirements.items) }
     ensures constrains { IfOk result (λ copy. copy.constrains.items ≡ known.now.constrains.items) }

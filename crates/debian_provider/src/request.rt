@@ -1,4 +1,10 @@
 //! What has to be there.
+ghost use Rattle.std.specs.Prelude.{◌≡◌, Contains, IfOk, OnOk};
+ghost use Rattle.debian_directory.specs.Plain.{plain_name};
+ghost use Rattle.debian_provider.specs.Growing.{IsGrown};
+ghost use Rattle.debian_provider.specs.Needs.{IsOneOf, IsWanted};
+ghost use Rattle.debian_provider.specs.Reading.{IsWider};
+
 use crate::archive::Archive;
 use crate::needs::push_requirement;
 use crate::set::Set;
@@ -9,45 +15,61 @@ use resolvo_pool::Requirement;
 
 impl<'t> Archive<'_, 't> {
     /// Adds the names of `Install`.
-    pub(crate) fn add_requested(&mut self) -> Result<(), StoreError> {
+    pub(crate) fn add_requested(&mut self) -> Result<(), StoreError>
+        ensures { OnOk result (IsWider self.old self.new) }
+    {
         let names = names_of(
             self.alloc,
             self.rules.request.architecture,
             self.rules.request.install,
         )?;
         for name in &names {
-            let requirement = self.requirement_of(*name)?;
-            push_requirement(&mut self.requirements, requirement)?;
+            self.add_wanted(*name)?;
         }
         Ok(())
+    }
+
+    /// Adds that a version of a name is there.
+    fn add_wanted(&mut self, name: Name<'t>) -> Result<(), StoreError>
+        ensures { IsWanted self.old.rules (plain_name name.entry) → OnOk result (IsWider self.old self.new) }
+    {
+        let requirement = self.requirement_of(name)?;
+        push_requirement(&mut self.requirements, requirement)
     }
 
     /// Adds that each name that is installed, and isn't to go, keeps a version: it has to, or it is to be tried.
-    pub(crate) fn add_kept(&mut self) -> Result<(), StoreError> {
+    pub(crate) fn add_kept(&mut self) -> Result<(), StoreError>
+        ensures { OnOk result (IsWider self.old self.new) }
+    {
         let packages = self.rules.packages;
-        for package in packages {
-            if package.state.is_installed {
-                self.add_installed(package)?;
-            }
+        for one in packages {
+            self.add_installed(one)?;
         }
         Ok(())
     }
 
-    /// Adds that the name of an installed package keeps a version. A name that is to go only comes into the pool.
-    fn add_installed(&mut self, package: &Package<'t>) -> Result<(), StoreError> {
-        let name = self.rules.name_of(package);
-        let requirement = self.requirement_of(name)?;
-        if self.rules.must_stay(package) {
-            push_requirement(&mut self.requirements, requirement)?;
-        } else if !self.rules.is_to_go(name) && self.is_to_be_kept(package) {
-            push_requirement(&mut self.kept, requirement)?;
+    /// Adds that the name of a package keeps a version, if the package is installed. A name that is to go only comes
+    /// into the pool.
+    fn add_installed(&mut self, one: &Package<'t>) -> Result<(), StoreError>
+        ensures { Contains self.old.rules.packages.now one.now → OnOk result (IsWider self.old self.new) }
+    {
+        if !one.state.is_installed {
+            return Ok(());
         }
-        Ok(())
+        let name = self.rules.name_of(one);
+        if self.rules.must_stay(one) {
+            return self.add_wanted(name);
+        }
+        let requirement = self.requirement_of(name)?;
+        if self.rules.is_to_go(name) || !self.is_to_be_kept(one) {
+            return Ok(());
+        }
+        push_requirement(&mut self.kept, requirement)
     }
 
     /// Whether an installed package is kept for its own sake.
-    fn is_to_be_kept(&self, package: &Package<'t>) -> bool {
-        !(package.state.is_automatic && self.rules.request.actions.autoremove)
+    fn is_to_be_kept(&self, one: &Package<'t>) -> bool {
+        !(one.state.is_automatic && self.rules.request.actions.autoremove)
     }
 
     /// Of each name that is asked for the version to try first, if it has one.
@@ -68,7 +90,10 @@ impl<'t> Archive<'_, 't> {
     }
 
     /// That a version of a name is there.
-    fn requirement_of(&mut self, name: Name<'t>) -> Result<Requirement, StoreError> {
+    fn requirement_of(&mut self, name: Name<'t>) -> Result<Requirement, StoreError>
+        ensures grown { OnOk result (IsGrown self.old self.new) }
+        ensures of { IfOk result (IsOneOf self.new.reached.pool (plain_name name.entry)) }
+    {
         let id = self.reach(name)?;
         let set = self.reached.add_set(id, Set::All)?;
         Ok(Requirement::Single(set))

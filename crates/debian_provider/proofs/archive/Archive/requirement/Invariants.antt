@@ -1,6 +1,15 @@
-use Rattle.resolvo_pool.specs.Pool.{AreSetsHere}
+use Rattle.std.proofs.Common.{[]}
+use Rattle.std.specs.Prelude.{All}
+use Rattle.debian_text.specs.Relations.{relation_of}
+use Rattle.debian_scenario.specs.Plain.{plain_package}
+use Rattle.debian_provider.specs.Growing.{IsAdded}
+use Rattle.debian_provider.specs.Needs.{IsOffered}
 use Rattle.debian_provider.proofs.archive.Archive.requirement.Given as goal
 
--- the sets so far are in the pool
+-- what meets the alternatives so far is offered
 abbrev pub invariant-loop-part : goal.invariant-loop-part
-invariant-loop-part l = AreSetsHere l.self.reached.pool l.sets.items
+invariant-loop-part l = record {
+  added : IsAdded l.fn.self l.self [] l.sets.items;
+  offered : All (λ part. IsOffered l.self.rules l.self.reached.pool (plain_package l.one) l.sets.items
+      (relation_of part.now)) l.yielded;
+}
