@@ -82,10 +82,11 @@ class Package:
         """Whether another package is enough for a relation of this one."""
         if not relation.is_readable or not relation.means(other):
             return False
-        if relation.qualifier not in (None, "any"):
-            return other.architecture == relation.qualifier
-        kinds = ("foreign",) if relation.qualifier is None else ("foreign", "allowed")
-        return other.architecture == self.architecture or other.get("Multi-Arch") in kinds
+        if relation.qualifier is None:
+            return other.architecture == self.architecture or other.get("Multi-Arch") == "foreign"
+        if relation.qualifier == "any":
+            return other.get("Multi-Arch") == "allowed"
+        return other.architecture == relation.qualifier
 
     def is_met(self, there):
         """Whether what this package depends on is there."""
@@ -95,13 +96,22 @@ class Package:
             for group in parts_of(self.get(field), ",")
         )
 
+    def brings_in(self, other):
+        """Whether this package depends on another, or recommends it."""
+        return any(
+            self.is_met_by(relation, other)
+            for field in ("Pre-Depends", "Depends", "Recommends")
+            for group in parts_of(self.get(field), ",")
+            for relation in map(Relation, group.split("|"))
+        )
+
     def is_free(self, there):
-        """Whether nothing is there that this package conflicts with, but perhaps itself."""
+        """Whether nothing of another name is there that this package conflicts with."""
         for field in ("Conflicts", "Breaks"):
             for relation in map(Relation, parts_of(self.get(field), ",")):
                 if not relation.is_readable:
                     return False
-                others = [it for it in there if it.full_name != self.full_name and relation.means(it)]
+                others = [it for it in there if it.name != self.name and relation.means(it)]
                 if any(relation.qualifier in (None, "any", it.architecture) for it in others):
                     return False
         return True
@@ -124,6 +134,7 @@ class Scenario:
         self.asked, self.gone = (self.names(field) for field in ("Install", "Remove"))
         self.installed = {it.full_name for it in self.packages if it.says("Installed")}
         self.held = {it.full_name for it in self.packages if it.says("Hold")}
+        self.with_candidate = {it.full_name for it in self.packages if it.says("APT-Candidate")}
 
     def says(self, *fields):
         return any(self.request.get(field) == "yes" for field in fields)
@@ -134,17 +145,18 @@ class Scenario:
         return {(name, self.native if where in ("", "all") else where) for name, _, where in words}
 
     def may_be_picked(self, package):
-        """Whether an answer may have a package: it is installed, or the candidate of a name that may change."""
+        """Whether an answer may have a package: an installed one, or the candidate of a name that may change. A name
+        that is asked for has its candidate, if there is one."""
         name = package.full_name
         if name in self.gone:
             return False
+        is_pinned = self.request.get("Strict-Pinning") == "no" or package.says("APT-Candidate")
+        if name in self.asked:
+            return is_pinned or package.says("Installed") and name not in self.with_candidate
         if package.says("Installed"):
             return True
-        if self.request.get("Strict-Pinning") != "no" and not package.says("APT-Candidate"):
-            return False
-        if name in self.held and name not in self.asked:
-            return False
-        return name in self.installed or not self.says("Forbid-New-Install", "Upgrade")
+        may_be_new = name in self.installed or not self.says("Forbid-New-Install", "Upgrade")
+        return is_pinned and name not in self.held and may_be_new
 
     def must_stay(self, package):
         """Whether a version of the package's name has to be there."""
@@ -165,3 +177,12 @@ class Scenario:
             and all(one.fits(other) for one, other in pairs)
             and all(it.is_met(there) and it.is_free(there) for it in there)
         )
+
+    def without_cause(self, there):
+        """Those of these packages that neither the request nor what is installed brings in, at any number of steps."""
+        caused = [it for it in there if it.full_name in self.installed | self.asked]
+        left = [it for it in there if it not in caused]
+        for one in caused:
+            caused += [it for it in left if one.brings_in(it)]
+            left = [it for it in left if it not in caused]
+        return left

@@ -61,6 +61,32 @@ ROWS = [
         ],
         "+1 +2",
     ),
+    # one library in two architectures, which conflicts with what it provides
+    (
+        "Install: a:i386",
+        [
+            "a amd64 1 Installed: yes; Multi-Arch: same; Provides: v; Conflicts: v",
+            "a i386 1 APT-Candidate: yes; Multi-Arch: same; Provides: v; Conflicts: v",
+        ],
+        "+1",
+    ),
+    # `:any` is met by what is allowed to meet it
+    (
+        "Install: a:amd64",
+        [
+            "a amd64 1 APT-Candidate: yes; Depends: b:any | c",
+            "b amd64 1 APT-Candidate: yes",
+            "c amd64 1 APT-Candidate: yes",
+        ],
+        "+0 +2",
+    ),
+    # what is asked for has its candidate, and may be new in an upgrade
+    ("Install: a:amd64", ["a amd64 1 Installed: yes", "a amd64 2 APT-Candidate: yes"], "+1"),
+    (
+        "Install: b:amd64\nUpgrade: yes",
+        ["a amd64 1 Installed: yes", "b amd64 1 APT-Candidate: yes", "c amd64 1 APT-Candidate: yes"],
+        "+1",
+    ),
     # a conflict removes; a hold, and what is essential, stays
     (
         "Install: a:amd64",

@@ -17,17 +17,17 @@ use Rattle.apt_solver.specs.Difference.{is_new}
 
 -- LISTS
 
-is_head : {X : Type 0} (y x : X) → Contains (y ∷ []) x → y ≡ x
+pub is_head : {X : Type 0} (y x : X) → Contains (y ∷ []) x → y ≡ x
 is_head y x at = elim (Contains-push_cases [] y x at) [ inl none ↦ absurd (omega (arith, none.1)) | inr same ↦ same ]
 
 module _ {X : Type 0} (test : X → Bool) where
-  some_of : (xs : List X) → list_any test xs ≡ true → (x : X) × Contains xs x × (test x ≡ true)
+  pub some_of : (xs : List X) → list_any test xs ≡ true → (x : X) × Contains xs x × (test x ≡ true)
   some_of xs so = let some = Any-from_list_any test xs so in (some.1, (some.0, some.2, some.3), some.4)
 
-  any_of : (xs : List X) (x : X) → Contains xs x → test x ≡ true → list_any test xs ≡ true
+  pub any_of : (xs : List X) (x : X) → Contains xs x → test x ≡ true → list_any test xs ≡ true
   any_of xs x at so = list_any_at test xs at.0 x at.1 (ap test at.2 ∙ so)
 
-  all_of : (xs : List X) (x : X) → list_all test xs ≡ true → Contains xs x → test x ≡ true
+  pub all_of : (xs : List X) (x : X) → list_all test xs ≡ true → Contains xs x → test x ≡ true
   all_of [] x all at = absurd (omega (arith, at.1))
   all_of (y ∷ rest) x all at =
       let parts = and_parts (test y) (list_all test rest) all in
@@ -36,7 +36,7 @@ module _ {X : Type 0} (test : X → Bool) where
         | inr behind ↦ all_of rest x parts.1 behind
       ]
 
-  filtered : (xs : List X) (x : X) → Contains (filter test xs) x → Contains xs x × (test x ≡ true)
+  pub filtered : (xs : List X) (x : X) → Contains (filter test xs) x → Contains xs x × (test x ≡ true)
   filtered xs x at = (
     All-contains (Contains xs) (filter test xs) x (All-filter test (Contains xs) xs (All-contains_itself xs)) at,
     All-contains (λ y. test y ≡ true) (filter test xs) x (filter_passes test xs) at,
@@ -54,7 +54,7 @@ module _ {X : Type 0} (test : X → Bool) where
       subst (λ b. Contains (cond b (y ∷ filter test rest) (filter test rest)) y) (sym so)
       (Contains-append_left (y ∷ []) (filter test rest) y (Contains-push [] y))
 
-  kept : (xs : List X) (x : X) → Contains xs x → test x ≡ true → Contains (filter test xs) x
+  pub kept : (xs : List X) (x : X) → Contains xs x → test x ≡ true → Contains (filter test xs) x
   kept [] x at so = absurd (omega (arith, at.1))
   kept (y ∷ rest) x at so =
       elim (Contains-append_cases (y ∷ []) rest x at) [
@@ -83,7 +83,7 @@ clash_of false architecture other apart same = both_ways false refl same
 same_again : (xs ys : List ℕ) → bytes_eq xs ys ≡ true → bytes_eq ys xs ≡ true
 same_again xs ys same = (bytes_eq-Decides ys xs).1 (sym ((bytes_eq-Decides xs ys).0 same))
 
-same_self : (a : NameText) → is_same a a ≡ true
+pub same_self : (a : NameText) → is_same a a ≡ true
 same_self a =
     and_from (bytes_eq a.name a.name) (bytes_eq a.architecture a.architecture) ((bytes_eq-Decides a.name a.name).1 refl)
     ((bytes_eq-Decides a.architecture a.architecture).1 refl)
@@ -109,7 +109,7 @@ module _ (native : List ℕ) where
       (subst (λ (z : PackageText). list_all (may_stand_beside native z) rest ≡ true) is all) at) same
 
   -- of one name one package is there
-  one_there : (there : List PackageText) (p q : PackageText) → stand_together native there ≡ true → Contains there p
+  pub one_there : (there : List PackageText) (p q : PackageText) → stand_together native there ≡ true → Contains there p
       → Contains there q → is_same (name_of native p) (name_of native q) ≡ true → p ≡ q
   one_there [] p q stand at other same = absurd (omega (arith, at.1))
   one_there (y ∷ rest) p q stand at other same =

@@ -1,12 +1,19 @@
 //! From the text of a scenario to the text of its answer.
-ghost use Rattle.std.specs.Prelude.{◌≡◌, true, All, Contains, map, IfOk, OnOk};
+ghost use Rattle.std.specs.Prelude.{◌≡◌, false, true, All, Contains, map, IfOk, OnOk};
 ghost use Rattle.debian_scenario.specs.Plain.{plain_package, plain_request};
+ghost use Rattle.debian_directory.specs.Answers.{keeps_all};
+ghost use Rattle.debian_provider.specs.Needs.{IsKeeping};
+ghost use Rattle.apt_solver.specs.Causes.{HaveCauses};
+ghost use Rattle.apt_solver.specs.Errors.{SaysFault};
 ghost use Rattle.apt_solver.specs.Program.{IsSaid, IsSaidOf, is_whole};
+ghost use Rattle.apt_solver.specs.Search.{HasNoSuch, IsFound};
 
+use crate::causes::have_causes;
 use crate::difference::difference;
-use crate::errors::{error_text, fault_text};
+use crate::errors::{fault_text, none_text, unread_text};
 use crate::finding::{Found, find};
-use debian_directory::{Directory, Rules, is_answer};
+use crate::ordering::in_order;
+use debian_directory::{Directory, Rules, is_answer, keeps_all};
 use debian_scenario::{Package, Request, read};
 use std::alloc::{AllocError, Global};
 
@@ -17,7 +24,7 @@ pub(crate) fn answer(alloc: Global, text: &[u8]) -> Result<Vec<u8>, AllocError>
     if is_whole(text) {
         answer_whole(alloc, text)
     } else {
-        error_text(alloc, "the scenario doesn't end with an empty line")
+        fault_text(alloc, "the scenario doesn't end with an empty line")
     }
 }
 
@@ -36,7 +43,7 @@ fn answer_whole(alloc: Global, text: &[u8]) -> Result<Vec<u8>, AllocError>
 {
     match read(alloc, text) {
         Ok(scenario) => answer_scenario(alloc, &scenario.request, &scenario.packages),
-        Err(error) => fault_text(alloc, error),
+        Err(error) => unread_text(alloc, error),
     }
 }
 
@@ -55,41 +62,123 @@ fn answer_scenario<'s, 't>(
         directory: &directory,
     };
     match find(alloc, rules) {
-        Ok(Found::Packages(places)) => answer_places(alloc, &rules, &places),
-        Ok(Found::Nothing(message)) => error_text(alloc, &message),
-        Err(refused) => error_text(alloc, &format!(in alloc; "{refused}")?),
+        Ok(found) => found_text(alloc, &rules, &found),
+        Err(refused) => fault_text(alloc, &format!(in alloc; "{refused}")?),
     }
 }
 
-/// What is said where the search found the packages at these places.
+/// What is said where the search found this.
+fn found_text(alloc: Global, rules: &Rules<'_, '_>, found: &Found) -> Result<Vec<u8>, AllocError>
+    requires { IsFound rules.now found.now }
+    ensures { IfOk result (λ said. IsSaidOf (plain_request rules.now.request.now)
+        (map plain_package rules.now.packages.now) said.items) }
+{
+    match found {
+        Found::Packages { places, keeps_all } => answer_places(alloc, rules, places, *keeps_all),
+        Found::NoAnswer(reasons) => none_text(alloc, reasons),
+        Found::StepsUsed => fault_text(alloc, "the search took too long"),
+        Found::Unconfirmed => unconfirmed_text(alloc),
+    }
+}
+
+/// What is said where the search found the packages at these places, which are to keep all, unless no answer does.
 fn answer_places(
     alloc: Global,
     rules: &Rules<'_, '_>,
     places: &[usize],
+    keeps_all: bool,
 ) -> Result<Vec<u8>, AllocError>
+    requires { keeps_all ≡ false → HasNoSuch IsKeeping rules.now }
     ensures { IfOk result (λ said. IsSaidOf (plain_request rules.now.request.now)
         (map plain_package rules.now.packages.now) said.items) }
 {
-    let there = packages_at(alloc, rules.packages, places)?;
-    answer_found(alloc, rules, &there)
+    let found = packages_at(alloc, rules.packages, places)?;
+    answer_ordered(alloc, rules, &found, keeps_all)
 }
 
-/// That these packages are to be there, if a check confirms that they are an answer.
+/// What is said where these packages were found: they are brought into an order in which each comes after its cause.
+fn answer_ordered<'t>(
+    alloc: Global,
+    rules: &Rules<'_, 't>,
+    found: &[Package<'t>],
+    keeps_all: bool,
+) -> Result<Vec<u8>, AllocError>
+    requires known { All (Contains rules.now.packages.now) found.now }
+    requires none { keeps_all ≡ false → HasNoSuch IsKeeping rules.now }
+    ensures { IfOk result (λ said. IsSaidOf (plain_request rules.now.request.now)
+        (map plain_package rules.now.packages.now) said.items) }
+{
+    let order = in_order(alloc, rules, found)?;
+    let there = packages_at(alloc, found, &order.places)?;
+    answer_caused(alloc, rules, &there, &order.causes, keeps_all)
+}
+
+/// What is said of these packages, if a check confirms that each has a cause.
+fn answer_caused<'t>(
+    alloc: Global,
+    rules: &Rules<'_, 't>,
+    there: &[Package<'t>],
+    causes: &[usize],
+    keeps_all: bool,
+) -> Result<Vec<u8>, AllocError>
+    requires known { All (Contains rules.now.packages.now) there.now }
+    requires none { keeps_all ≡ false → HasNoSuch IsKeeping rules.now }
+    ensures { IfOk result (λ said. IsSaidOf (plain_request rules.now.request.now)
+        (map plain_package rules.now.packages.now) said.items) }
+{
+    if have_causes(rules, there, causes) {
+        answer_found(alloc, rules, there, keeps_all)
+    } else {
+        unconfirmed_text(alloc)
+    }
+}
+
+/// What is said of these packages: that they are to be there, if checks confirm that they are an answer, and that they
+/// keep all if they are to.
 fn answer_found<'t>(
     alloc: Global,
     rules: &Rules<'_, 't>,
     there: &[Package<'t>],
+    is_to_keep_all: bool,
 ) -> Result<Vec<u8>, AllocError>
-    requires { All (Contains rules.now.packages.now) there.now }
+    requires known { All (Contains rules.now.packages.now) there.now }
+    requires caused { HaveCauses (plain_request rules.now.request.now) (map plain_package rules.now.packages.now)
+        (map plain_package there.now) }
+    requires none { is_to_keep_all ≡ false → HasNoSuch IsKeeping rules.now }
     ensures { IfOk result (λ said. IsSaidOf (plain_request rules.now.request.now)
         (map plain_package rules.now.packages.now) said.items) }
 {
-    let is_confirmed = is_answer(alloc, rules, there)?;
-    if is_confirmed {
+    let keeps = keeps_as_sought(alloc, rules, there, is_to_keep_all)?;
+    let answers = is_answer(alloc, rules, there)?;
+    if keeps && answers {
         difference(alloc, rules, there)
     } else {
-        error_text(alloc, "a check didn't confirm what was found")
+        unconfirmed_text(alloc)
     }
+}
+
+/// Whether these packages keep all that is to be kept, if that was sought.
+fn keeps_as_sought<'t>(
+    alloc: Global,
+    rules: &Rules<'_, 't>,
+    there: &[Package<'t>],
+    is_to_keep_all: bool,
+) -> Result<bool, AllocError>
+    ensures { is_to_keep_all ≡ true → IfOk result (λ yes. yes ≡ keeps_all (plain_request rules.now.request.now)
+        (map plain_package rules.now.packages.now) (map plain_package there.now)) }
+{
+    if is_to_keep_all {
+        keeps_all(alloc, rules, there)
+    } else {
+        Ok(true)
+    }
+}
+
+/// That no check confirmed what was found.
+fn unconfirmed_text(alloc: Global) -> Result<Vec<u8>, AllocError>
+    ensures { IfOk result (λ said. SaysFault said.items) }
+{
+    fault_text(alloc, "a check didn't confirm what was found")
 }
 
 /// The packages at these places.

@@ -2,16 +2,20 @@
 //!
 //! It reads a scenario from standard input, and answers on standard output what is installed and what is removed, or an
 //! error with the reasons (`answering`). `finding` makes a provider of the scenario (`debian_provider`), and searches
-//! for the solution that is the best by apt's wishes (`solving`, `wishes`, `recommending`). What it finds are packages;
-//! a check over the stanzas confirms them (`debian_directory`), and `difference` says how they differ from what is
-//! installed. So no answer rests on the search. The exit status is 0 in both cases; it is 1 if standard input or output
-//! fails, or memory ends.
+//! for the solution that is the best by apt's wishes (`solving`, `wishes`, `recommending`). What it finds are packages.
+//! `ordering` brings them into an order in which each comes after its cause. Checks over the stanzas confirm that they
+//! are an answer (`debian_directory`) and have causes (`causes`), and `difference` says how they differ from what is
+//! installed. So that an answer is one doesn't rest on the search. That there is none, or none that keeps all, rests on
+//! the provider, which leaves out nothing that an answer may have, and on the check of what the search refutes. The
+//! exit status is 0 in both cases; it is 1 if standard input or output fails, or memory ends.
 #![tactic(auto)]
 
 mod answering;
+mod causes;
 mod difference;
 mod errors;
 mod finding;
+mod ordering;
 mod reasons;
 mod recommending;
 mod solving;

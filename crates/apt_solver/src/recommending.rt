@@ -5,6 +5,9 @@
 //! added when there is a solution (`add`), and the search begins again. A wish is "this package isn't there, or the
 //! first of these is, or the second": so it does no harm where a guessed package isn't picked. Since "isn't there" is
 //! the best, the wishes that bring a package in come before its own.
+ghost use Rattle.std.specs.Prelude.{OnOk};
+ghost use Rattle.apt_solver.specs.Search.{StaysWhole};
+
 use crate::wishes::{Wishes, installed_of, is_installed, picked};
 use debian_provider::Archive;
 use debian_scenario::Package;
@@ -32,7 +35,9 @@ impl Recommending {
         &mut self,
         archive: &mut Archive<'_, '_>,
         wishes: &mut Wishes,
-    ) -> Result<(), StoreError> {
+    ) -> Result<(), StoreError>
+        ensures { OnOk result (StaysWhole archive.old archive.new) }
+    {
         let mut likely = archive.requested()?;
         for place in 0..archive.packages().len() {
             let Some(solvable) = likely.get(place).copied() else {
@@ -44,13 +49,16 @@ impl Recommending {
     }
 
     /// Adds the wishes of a package that is likely to be new, and the packages that are likely with it.
+    #[tactic(auto, using(crate::proofs::Stays::stays_itself))]
     fn follow(
         &mut self,
         archive: &mut Archive<'_, '_>,
         solvable: SolvableId,
         likely: &mut Vec<SolvableId>,
         wishes: &mut Wishes,
-    ) -> Result<(), StoreError> {
+    ) -> Result<(), StoreError>
+        ensures { OnOk result (StaysWhole archive.old archive.new) }
+    {
         let Some(package) = archive.package(solvable).copied() else {
             return Ok(());
         };
@@ -66,10 +74,7 @@ impl Recommending {
                 }
             }
         }
-        for list in &archive.meeting(&package, relations.recommends)? {
-            let _ = add_likely(archive, list, likely)?;
-        }
-        add_of(archive, solvable, &package, likely.as_slice(), wishes)
+        add_recommended(archive, solvable, &package, likely, wishes)
     }
 
     /// Adds the wishes of the packages of these solvables that weren't asked so far. Answers whether there was one.
@@ -78,17 +83,35 @@ impl Recommending {
         archive: &mut Archive<'_, '_>,
         solvables: &[SolvableId],
         wishes: &mut Wishes,
-    ) -> Result<bool, StoreError> {
+    ) -> Result<bool, StoreError>
+        ensures { OnOk result (StaysWhole archive.old archive.new) }
+    {
         let before = wishes.len();
         for solvable in solvables {
-            if !self.asked.contains(*solvable) {
-                self.asked.insert(*solvable)?;
-                if let Some(package) = archive.package(*solvable).copied() {
-                    add_of(archive, *solvable, &package, solvables, wishes)?;
-                }
-            }
+            self.add_one(archive, *solvable, solvables, wishes)?;
         }
         Ok(wishes.len() > before)
+    }
+
+    /// Adds the wishes of the package of a solvable, unless it was asked.
+    #[tactic(auto, using(crate::proofs::Stays::stays_itself))]
+    fn add_one(
+        &mut self,
+        archive: &mut Archive<'_, '_>,
+        solvable: SolvableId,
+        there: &[SolvableId],
+        wishes: &mut Wishes,
+    ) -> Result<(), StoreError>
+        ensures { OnOk result (StaysWhole archive.old archive.new) }
+    {
+        if self.asked.contains(solvable) {
+            return Ok(());
+        }
+        self.asked.insert(solvable)?;
+        let Some(package) = archive.package(solvable).copied() else {
+            return Ok(());
+        };
+        add_of(archive, solvable, &package, there, wishes)
     }
 }
 
@@ -111,15 +134,34 @@ fn add_likely(
     Ok(true)
 }
 
+/// Adds what a package that is likely to be new recommends, and its wishes.
+fn add_recommended<'t>(
+    archive: &mut Archive<'_, 't>,
+    solvable: SolvableId,
+    package: &Package<'t>,
+    likely: &mut Vec<SolvableId>,
+    wishes: &mut Wishes,
+) -> Result<(), StoreError>
+    ensures { OnOk result (StaysWhole archive.old archive.new) }
+{
+    for list in &archive.meeting(package, package.relations.recommends)? {
+        let _ = add_likely(archive, list, likely)?;
+    }
+    add_of(archive, solvable, package, likely.as_slice(), wishes)
+}
+
 /// Adds the wishes of a package, if they count: those of a new one; and with `Autoremove` those of others, as far as
 /// what they recommend is installed. What is there anyway comes first.
+#[tactic(auto, using(crate::proofs::Stays::stays_itself))]
 fn add_of<'t>(
     archive: &mut Archive<'_, 't>,
     solvable: SolvableId,
     package: &Package<'t>,
     there: &[SolvableId],
     wishes: &mut Wishes,
-) -> Result<(), StoreError> {
+) -> Result<(), StoreError>
+    ensures { OnOk result (StaysWhole archive.old archive.new) }
+{
     let is_new = !is_installed_beside(archive, package);
     let autoremove = archive.request().actions.autoremove;
     if !is_new && !autoremove {

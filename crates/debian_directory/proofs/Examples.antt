@@ -119,6 +119,26 @@ two_versions : is_install (codes "a") (a installed ∷ newer_a candidate ∷ [])
 unfolding keys upstream_len
 two_versions = refl
 
+-- a name that is asked for has its candidate
+stays_old : is_install (codes "a") (a installed ∷ []) ≡ false
+unfolding keys upstream_len
+stays_old = refl
+
+is_new : is_install (codes "a") (newer_a candidate ∷ []) ≡ true
+unfolding keys upstream_len
+is_new = refl
+
+-- and may be new where nothing else may
+upgrades_with : is_answer (request (record actions { upgrade = true }) (codes "b c") []) packages
+    (a installed ∷ b ∷ c ∷ []) ≡ true
+unfolding keys upstream_len
+upgrades_with = refl
+
+upgrades_with_no_other : is_answer (request (record actions { upgrade = true }) (codes "b") []) packages
+    (a installed ∷ b ∷ c ∷ []) ≡ false
+unfolding keys upstream_len
+upgrades_with_no_other = refl
+
 -- REMOVE
 
 removes : is_answer (request actions [] (codes "a:amd64")) packages [] ≡ true

@@ -75,14 +75,28 @@ module _ (request : RequestText) (packages : List PackageText) where
   -- a name may get a version that isn't installed
   abbrev pub may_change : NameText → Bool
   may_change name =
-      (is_asked name || not (is_name_held name))
-      && (is_name_installed name || not (request.actions.forbid_new_install || request.actions.upgrade))
+      is_asked name || (not (is_name_held name)
+      && (is_name_installed name || not (request.actions.forbid_new_install || request.actions.upgrade)))
 
-  -- installed, or apt's candidate, if pinning is strict; and its name isn't to go
+  -- p has this name, and is apt's candidate
+  abbrev pub is_candidate_as : NameText → PackageText → Bool
+  is_candidate_as name p = is_same name (name_in p) && p.state.is_candidate
+
+  abbrev pub has_candidate : NameText → Bool
+  has_candidate name = list_any (is_candidate_as name) packages
+
+  -- apt's candidate, or any version if pinning isn't strict
+  abbrev pub is_pinned : PackageText → Bool
+  is_pinned p = p.state.is_candidate || not request.actions.strict_pinning
+
+  -- an installed version may stay, but not where the candidate of its name is asked for
+  abbrev pub may_stay : PackageText → Bool
+  may_stay p = p.state.is_installed
+      && (is_pinned p || not (is_asked (name_in p)) || not (has_candidate (name_in p)))
+
+  -- its name isn't to go, and it may stay, or may be new
   abbrev pub may_be_picked : PackageText → Bool
-  may_be_picked p =
-      not (is_to_go (name_in p)) && (p.state.is_installed
-      || ((p.state.is_candidate || not request.actions.strict_pinning) && may_change (name_in p)))
+  may_be_picked p = not (is_to_go (name_in p)) && (may_stay p || (is_pinned p && may_change (name_in p)))
 
   -- WHAT HAS TO BE THERE
 
@@ -101,6 +115,20 @@ module _ (request : RequestText) (packages : List PackageText) where
 
   abbrev pub stay : List PackageText → Bool
   stay there = list_all (stays there) packages
+
+  -- WHAT STAYS IF IT CAN
+
+  -- an installed package that isn't to go, unless `Autoremove` lets it go as an automatic one
+  abbrev pub is_to_be_kept : PackageText → Bool
+  is_to_be_kept p =
+      p.state.is_installed && not (is_to_go (name_in p)) && not (p.state.is_automatic && request.actions.autoremove)
+
+  abbrev pub is_kept : List PackageText → PackageText → Bool
+  is_kept there p = not (is_to_be_kept p) || has request.architecture there (name_in p)
+
+  -- each of them has a version there
+  abbrev pub keeps_all : List PackageText → Bool
+  keeps_all there = list_all (is_kept there) packages
 
   -- ANSWERS
 

@@ -2,7 +2,7 @@
 ghost use Rattle.std.specs.Prelude.{◌≡◌, ◌||◌, not, map, IfOk};
 ghost use Rattle.std.specs.List.{list_all};
 ghost use Rattle.debian_scenario.specs.Plain.{plain_package, plain_request};
-ghost use Rattle.debian_directory.specs.Answers.{has, is_answer, may_all_be_picked, stay, stays};
+ghost use Rattle.debian_directory.specs.Answers.{has, is_answer, is_kept, keeps_all, may_all_be_picked, stay, stays};
 ghost use Rattle.debian_directory.specs.Plain.{plain_name};
 
 use crate::name::Name;
@@ -64,4 +64,38 @@ fn stays<'t>(rules: &Rules<'_, 't>, together: &Together<'_, 't>, one: &Package<'
         (map plain_package together.now.packages.now) (plain_package one.now) }
 {
     !rules.must_stay(one) || together.has(rules.name_of(one))
+}
+
+/// Whether each package that is to be kept has a version among these.
+pub fn keeps_all<'t>(
+    alloc: Global,
+    rules: &Rules<'_, 't>,
+    packages: &[Package<'t>],
+) -> Result<bool, AllocError>
+    ensures { IfOk result (λ yes. yes ≡ keeps_all (plain_request rules.now.request.now)
+        (map plain_package rules.now.packages.now) (map plain_package packages.now)) }
+{
+    let together = Together::new(alloc, rules.request.architecture, packages)?;
+    Ok(are_kept(rules, &together))
+}
+
+/// Whether of each package that is to be kept a version is there.
+fn are_kept<'t>(rules: &Rules<'_, 't>, together: &Together<'_, 't>) -> bool
+    requires { together.now.native.now ≡ rules.now.request.now.architecture.now }
+    ensures { result ≡ keeps_all (plain_request rules.now.request.now) (map plain_package rules.now.packages.now)
+        (map plain_package together.now.packages.now) }
+{
+    rules
+        .packages
+        .iter()
+        .all(|one| is_kept(rules, together, one))
+}
+
+/// Whether a version of a package's name is there, if the package is to be kept.
+fn is_kept<'t>(rules: &Rules<'_, 't>, together: &Together<'_, 't>, one: &Package<'t>) -> bool
+    requires { together.now.native.now ≡ rules.now.request.now.architecture.now }
+    ensures { result ≡ is_kept (plain_request rules.now.request.now) (map plain_package rules.now.packages.now)
+        (map plain_package together.now.packages.now) (plain_package one.now) }
+{
+    !rules.is_to_be_kept(one) || together.has(rules.name_of(one))
 }

@@ -56,6 +56,19 @@ impl<'s, 't> Rules<'s, 't> {
             && !self.is_to_go(self.name_of(one))
     }
 
+    /// Whether a version of a package's name is to stay, if that can be: the package is installed, and apt lets it go
+    /// neither by `Remove` nor by `Autoremove`.
+    pub fn is_to_be_kept(&self, one: &Package<'t>) -> bool
+        ensures { result ≡ spec.is_to_be_kept (plain_request self.now.request.now)
+            (map plain_package self.now.packages.now) (plain_package one.now) }
+    {
+        let state = &one.state;
+        let own = self.name_of(one);
+        state.is_installed
+            && !self.is_to_go(own)
+            && !(state.is_automatic && self.request.actions.autoremove)
+    }
+
     /// Whether nothing may be removed but what is to go.
     fn forbids_removals(&self) -> bool
         ensures { result ≡ spec.forbids_removals (plain_request self.now.request.now)
@@ -71,28 +84,40 @@ impl<'s, 't> Rules<'s, 't> {
     {
         let name = self.name_of(one);
         !self.is_to_go(name)
-            && (one.state.is_installed || (self.may_be_new(one) && self.may_change(name)))
+            && (self.may_stay(one) || (self.is_pinned(one) && self.may_change(name)))
+    }
+
+    /// Whether a package is installed, and isn't to make room for apt's candidate of its name, which is asked for.
+    fn may_stay(&self, one: &Package<'t>) -> bool
+        ensures { result ≡ spec.may_stay (plain_request self.now.request.now) (map plain_package self.now.packages.now)
+            (plain_package one.now) }
+    {
+        let name = self.name_of(one);
+        one.state.is_installed
+            && (self.is_pinned(one) || !self.is_asked(name) || !self.has_candidate(name))
     }
 
     /// Whether apt leaves it to a solver to install a package.
-    fn may_be_new(&self, one: &Package<'t>) -> bool
-        ensures { result ≡ (one.now.state.is_candidate || not self.now.request.now.actions.strict_pinning) }
+    fn is_pinned(&self, one: &Package<'t>) -> bool
+        ensures { result ≡ spec.is_pinned (plain_request self.now.request.now)
+            (map plain_package self.now.packages.now) (plain_package one.now) }
     {
         one.state.is_candidate || !self.request.actions.strict_pinning
     }
 
-    /// Whether a name may get a version that isn't installed. A hold doesn't count if the name is asked for.
+    /// Whether a name may get a version that isn't installed. What forbids that doesn't count if the name is asked for.
     fn may_change(&self, name: Name<'t>) -> bool
         ensures { result ≡ spec.may_change (plain_request self.now.request.now)
             (map plain_package self.now.packages.now) (plain_name name.entry) }
     {
         let actions = &self.request.actions;
-        (self.is_asked(name) || !self.is_held(name))
-            && (self.is_installed(name) || !(actions.forbid_new_install || actions.upgrade))
+        self.is_asked(name)
+            || (!self.is_held(name)
+                && (self.is_installed(name) || !(actions.forbid_new_install || actions.upgrade)))
     }
 
     /// Whether a version of a name is installed.
-    fn is_installed(&self, name: Name<'t>) -> bool
+    pub fn is_installed(&self, name: Name<'t>) -> bool
         ensures { result ≡ spec.is_name_installed (plain_request self.now.request.now)
             (map plain_package self.now.packages.now) (plain_name name.entry) }
     {
@@ -100,6 +125,17 @@ impl<'s, 't> Rules<'s, 't> {
             .places(name.name)
             .iter()
             .any(|place| self.is_installed_at(*place, name))
+    }
+
+    /// Whether a name has a candidate of apt.
+    fn has_candidate(&self, name: Name<'t>) -> bool
+        ensures { result ≡ spec.has_candidate (plain_request self.now.request.now)
+            (map plain_package self.now.packages.now) (plain_name name.entry) }
+    {
+        self.directory
+            .places(name.name)
+            .iter()
+            .any(|place| self.is_candidate_at(*place, name))
     }
 
     /// Whether apt is to leave a name as it is.
@@ -121,6 +157,18 @@ impl<'s, 't> Rules<'s, 't> {
     {
         match self.packages.get(place) {
             Some(one) => name == self.name_of(one) && one.state.is_installed,
+            None => false,
+        }
+    }
+
+    /// Whether a package of this name is at a place, and is apt's candidate.
+    fn is_candidate_at(&self, place: usize, name: Name<'t>) -> bool
+        ensures { result ≡ any_at (spec.is_candidate_as (plain_request self.now.request.now)
+            (map plain_package self.now.packages.now) (plain_name name.entry))
+            (map plain_package self.now.packages.now) place }
+    {
+        match self.packages.get(place) {
+            Some(one) => name == self.name_of(one) && one.state.is_candidate,
             None => false,
         }
     }

@@ -129,6 +129,10 @@ serves_any : may (needing (codes "b:any") ∷ other Allowed (codes "1") ∷ []) 
 unfolding keys upstream_len
 serves_any = refl
 
+serves_no_other_any : may (needing (codes "b:any") ∷ b (codes "1") ∷ []) ≡ false
+unfolding keys upstream_len
+serves_no_other_any = refl
+
 serves_named : may (needing (codes "b:i386") ∷ other No (codes "1") ∷ []) ≡ true
 unfolding keys upstream_len
 serves_named = refl
@@ -137,6 +141,15 @@ same_twice : may (of_architecture (codes "amd64") Same (codes "b") (codes "1") n
     ≡ true
 unfolding keys upstream_len
 same_twice = refl
+
+-- who provides what it conflicts with may be there in two architectures
+abbrev library : List ℕ → PackageText
+library architecture = of_architecture architecture Same (codes "l") (codes "1")
+    (record nothing { provides = codes "v"; conflicts = codes "v" })
+
+library_twice : may (library (codes "amd64") ∷ library (codes "i386") ∷ []) ≡ true
+unfolding keys upstream_len
+library_twice = refl
 
 same_in_two_versions : may (of_architecture (codes "amd64") Same (codes "b") (codes "2") nothing ∷ other Same
     (codes "1") ∷ []) ≡ false

@@ -74,8 +74,7 @@ abbrev pub serves_architecture : List ℕ → List ℕ → PackageText → Optio
 serves_architecture native architecture q None =
     bytes_eq architecture (architecture_of native q) || is_foreign q.multi_arch
 serves_architecture native architecture q (Some qualifier) =
-    if bytes_eq qualifier (codes "any")
-    then bytes_eq architecture (architecture_of native q) || is_foreign q.multi_arch || is_allowed q.multi_arch
+    if bytes_eq qualifier (codes "any") then is_allowed q.multi_arch
     else bytes_eq qualifier (architecture_of native q)
 
 -- q may serve p, where a relation of p has this behind its colon
@@ -97,11 +96,10 @@ have_one_name p q = bytes_eq p.identity.name q.identity.name
 abbrev pub is_met_by : List ℕ → PackageText → RelationText → PackageText → Bool
 is_met_by native p relation q = means relation q && serves native p q relation.qualifier
 
--- p doesn't conflict with q by this relation of p; never with itself
+-- p doesn't conflict with q by this relation of p; never with a package of its own name, in any architecture
 abbrev pub is_free_of : List ℕ → PackageText → RelationText → PackageText → Bool
 is_free_of native p relation q =
-    (have_one_name p q && have_one_architecture native p q)
-    || not (means relation q && is_concerned native q relation.qualifier)
+    have_one_name p q || not (means relation q && is_concerned native q relation.qualifier)
 
 -- a relation of p is met by a package that is there
 abbrev pub is_met : List ℕ → List PackageText → PackageText → Option RelationText → Bool

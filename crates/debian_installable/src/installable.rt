@@ -135,7 +135,8 @@ fn is_free(native: &[u8], there: &[Package<'_>], one: &Package<'_>, part: &[u8])
         .all(|other| is_free_of(native, one, &relation, other))
 }
 
-/// Whether a package doesn't conflict with another one by this relation of it.
+/// Whether a package doesn't conflict with another one by this relation of it. It never does if both have one name:
+/// then [`may_stand_beside`] says whether both may be there.
 pub fn is_free_of(
     native: &[u8],
     one: &Package<'_>,
@@ -145,6 +146,6 @@ pub fn is_free_of(
     ensures { result ≡ is_free_of native.now (plain_package one.now) (plain_relation relation.now)
         (plain_package other.now) }
 {
-    (have_one_name(one, other) && have_one_architecture(native, one, other))
+    have_one_name(one, other)
         || !(means(relation, other) && is_concerned(native, other, relation.qualifier))
 }

@@ -91,9 +91,7 @@ pub fn serves_architecture(
     let own = architecture_of(native, other);
     match qualifier {
         None => architecture == own || is_foreign(other.multi_arch),
-        Some(b"any") => {
-            architecture == own || is_foreign(other.multi_arch) || is_allowed(other.multi_arch)
-        }
+        Some(b"any") => is_allowed(other.multi_arch),
         Some(named) => named == own,
     }
 }

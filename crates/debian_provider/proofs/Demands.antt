@@ -160,24 +160,27 @@ module _ (p q : Ids) (later : IsLater p q) where
           (found.0, found.1, found.2, found.3, meant_later c.requirement found.1 found.4),
     )
 
-module _ (old new : Archive) (grown : IsGrown old new) (one : PackageText) (requirements : List ConditionalRequirement)
-  where
-    abbrev InNew : Rules → List ConditionalRequirement → Type 0
-    InNew rules more = All (IsDemand rules new.reached.pool (IsThere rules one)) more
+-- what sets of packages of a kind have, they have in a later archive
+module _ (old new : Archive) (rules : new.rules ≡ old.rules) (later : IsLater old.reached.pool new.reached.pool)
+    (Such : Rules → List PackageText → Type 0) (requirements : List ConditionalRequirement) where
+  abbrev InNew : Rules → List ConditionalRequirement → Type 0
+  InNew r more = All (IsDemand r new.reached.pool (Such r)) more
 
-    still : All (IsDemand old.rules old.reached.pool (IsThere old.rules one)) requirements
-        → InNew old.rules requirements
-    still = All-weaker (IsDemand old.rules old.reached.pool (IsThere old.rules one))
-        (IsDemand old.rules new.reached.pool (IsThere old.rules one))
-        (demand_later old.reached.pool new.reached.pool grown.later old.rules (IsThere old.rules one)) requirements
+  abbrev InOld : Type 0
+  InOld = All (IsDemand old.rules old.reached.pool (Such old.rules)) requirements
 
-    pub demanded_still : AreDemanded old new one requirements requirements
-    demanded_still h = subst (λ (r : Rules). InNew r requirements) (sym grown.rules) (still h)
+  still : InOld → InNew old.rules requirements
+  still = All-weaker (IsDemand old.rules old.reached.pool (Such old.rules))
+      (IsDemand old.rules new.reached.pool (Such old.rules))
+      (demand_later old.reached.pool new.reached.pool later old.rules (Such old.rules)) requirements
 
-    pub demanded_more : (c : ConditionalRequirement) → IsDemand old.rules new.reached.pool (IsThere old.rules one) c
-        → AreDemanded old new one requirements (requirements ++ c ∷ [])
-    demanded_more c more h = subst (λ (r : Rules). InNew r (requirements ++ c ∷ [])) (sym grown.rules)
-        (All-push (IsDemand old.rules new.reached.pool (IsThere old.rules one)) requirements c (still h) more)
+  pub demands_still : InOld → InNew new.rules requirements
+  demands_still h = subst (λ (r : Rules). InNew r requirements) (sym rules) (still h)
+
+  pub demands_more : (c : ConditionalRequirement) → IsDemand old.rules new.reached.pool (Such old.rules) c → InOld
+      → InNew new.rules (requirements ++ c ∷ [])
+  demands_more c more h = subst (λ (r : Rules). InNew r (requirements ++ c ∷ [])) (sym rules)
+      (All-push (IsDemand old.rules new.reached.pool (Such old.rules)) requirements c (still h) more)
 
 -- THE GROUPS AND PARTS OF A FIELD
 

@@ -5,14 +5,15 @@ use Rattle.std.proofs.Common.{None, Some, get_or, length, ap, ap₂, arith, inl,
 use Rattle.std.specs.Prelude.{All, Contains}
 use Rattle.std.specs.List.{list_all}
 use Rattle.std.specs.Str.{bytes_eq}
-use Rattle.std.proofs.lemmas.Bool.{and_from, and_parts, cases_order, false≢true, or_cases}
+use Rattle.std.proofs.lemmas.Bool.{and_from, and_parts, both_ways, cases_order, false_from_ne_true}
+use Rattle.std.proofs.lemmas.Bool.{false≢true, or_cases}
 use Rattle.std.proofs.lemmas.List.{get_or_read}
 use Rattle.std.proofs.lemmas.List.Elements.{All-push, All-weaker}
 use Rattle.std.proofs.lemmas.List.Sums.{AllPass-from_list_all}
 use Rattle.std.proofs.lemmas.Slice.Eq.{bytes_eq-Decides}
 use Rattle.debian_text.specs.Relations.{RelationText}
 use Rattle.debian_scenario.specs.Packages.{PackageText}
-use Rattle.debian_installable.specs.Installable.{architecture_of, have_one_architecture, have_one_name, is_concerned}
+use Rattle.debian_installable.specs.Installable.{have_one_name, is_concerned}
 use Rattle.debian_installable.specs.Installable.{is_free_of, is_same, may_stand_beside, means, stand_together}
 use Rattle.debian_directory.specs.Answers.{NameText, name_of}
 use Rattle.debian_directory.specs.declared.rules.Rules.{Rules}
@@ -29,30 +30,32 @@ use Rattle.debian_provider.proofs.Named.{default, is_set, same_bytes, set_still}
 
 -- CONFLICTS
 
+not_same_back : (a b : List ℕ) → bytes_eq a b ≡ false → bytes_eq b a ≡ false
+not_same_back a b apart =
+    false_from_ne_true (bytes_eq b a)
+    (λ same. both_ways (bytes_eq a b) apart ((bytes_eq-Decides a b).1 (sym (same_bytes b a same))))
+
 not_swapped : (a b : Bool) → not (a && b) ≡ true → not (b && a) ≡ true
 not_swapped true true h = h
 not_swapped true false h = refl
 not_swapped false true h = refl
 not_swapped false false h = refl
 
-module _ (native : List ℕ) (one other : PackageText) where
-  same_name : bytes_eq one.identity.name other.identity.name ≡ true
-      → have_one_architecture native one other ≡ true → name_of native one ≡ name_of native other
-  same_name n a = ap₂ (λ (x y : List ℕ). record { name = x; architecture = y })
-      (same_bytes one.identity.name other.identity.name n)
-      (same_bytes (architecture_of native one) (architecture_of native other) a)
+spared : (native : List ℕ) (one other : PackageText) (r : RelationText) → have_one_name one other ≡ false
+    → is_free_of native one r other ≡ true → has native (Spared r) other ≡ true
+spared native one other r apart h = elim (or_cases _ _ h) [
+  | inl same ↦ absurd (both_ways (have_one_name one other) apart same)
+  | inr free ↦ not_swapped (means r other) (is_concerned native other r.qualifier) free
+]
 
-  spared : (r : RelationText) → (name_of native one ≡ name_of native other → ⊥)
-      → is_free_of native one r other ≡ true → has native (Spared r) other ≡ true
-  spared r apart h = elim (or_cases _ _ h) [
-    | inl same ↦ let both = and_parts _ _ same in absurd (apart (same_name both.0 both.1))
-    | inr free ↦ not_swapped (means r other) (is_concerned native other r.qualifier) free
-  ]
-
-pub spares_conflict : (rules : Rules) (one other : PackageText) (own : NameText) → own ≡ name_of (native_in rules) one
-    → (r : RelationText) → IsFreeFor rules one r → SparesOther rules one own other (Spared r)
-spares_conflict rules one other own is r free apart there is_there q in' named =
-    spared (native_in rules) one q r (λ same. apart (sym named ∙ sym same ∙ sym is))
+pub spares_conflict : (rules : Rules) (one other : PackageText) (own : NameText)
+    → bytes_eq other.identity.name one.identity.name ≡ false → (r : RelationText) → IsFreeFor rules one r
+    → SparesOther rules one own other (Spared r)
+spares_conflict rules one other own apart r free not_own there is_there q in' named =
+    let names : q.identity.name ≡ other.identity.name = ap (λ (n : NameText). n.name) named in
+    spared (native_in rules) one q r
+    (subst (λ (n : List ℕ). bytes_eq one.identity.name n ≡ false) (sym names)
+    (not_same_back other.identity.name one.identity.name apart))
     (passes (is_free_of (native_in rules) one r) there q (free there is_there) in')
 
 -- OTHER ARCHITECTURES

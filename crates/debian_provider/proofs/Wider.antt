@@ -21,7 +21,7 @@ use Rattle.debian_provider.specs.Growing.{AreNamed, IsGrown}
 use Rattle.debian_provider.specs.Needs.{AreNeeds, IsAnswer, IsDemand, IsLimit, IsThere}
 use Rattle.debian_provider.specs.Reading.{AreRead, AreRequired, IsRead, IsWhole, IsWider}
 use Rattle.debian_provider.specs.declared.archive.Archive.{Archive}
-use Rattle.debian_provider.proofs.Demands.{demand_later}
+use Rattle.debian_provider.proofs.Demands.{demand_later, demands_still}
 use Rattle.debian_provider.proofs.Later.{later_twice}
 use Rattle.debian_provider.proofs.More.{at_end}
 use Rattle.debian_provider.proofs.Named.{seen_still, set_still}
@@ -49,13 +49,6 @@ module _ (p q : Ids) (later : IsLater p q) where
     )
     needs_still one (Unknown reason) h = h
 
-    pub required_still : (requirements : List ConditionalRequirement) → All (IsDemand rules p (IsAnswer rules))
-        requirements
-        → All (IsDemand rules q (IsAnswer rules)) requirements
-    required_still requirements h =
-        All-weaker (IsDemand rules p (IsAnswer rules)) (IsDemand rules q (IsAnswer rules))
-        (demand_later p q later rules (IsAnswer rules)) requirements h
-
 module _ (old new : Archive) (rules : new.rules ≡ old.rules) (later : IsLater old.reached.pool new.reached.pool) where
   read_still : (s : ℕ) → ((needs : Needs) → option_map needs_of (slice_get old.needs.items s) ≡ Some needs
       → option_map needs_of (slice_get new.needs.items s) ≡ Some needs) → IsRead old s → IsRead new s
@@ -81,9 +74,8 @@ wider_by old new grown = record {
       read_still old new grown.rules grown.later s same
       (read s (subst (λ v. s < length v.items) grown.needs lt));
   required = λ required.
-      subst (λ (r : Rules). All (IsDemand r new.reached.pool (IsAnswer r)) new.requirements.items) (sym grown.rules)
-      (subst (λ v. All (IsDemand old.rules new.reached.pool (IsAnswer old.rules)) v.items) (sym grown.requirements)
-      (required_still old.reached.pool new.reached.pool grown.later old.rules old.requirements.items required));
+      subst (λ v. All (IsDemand new.rules new.reached.pool (IsAnswer new.rules)) v.items) (sym grown.requirements)
+      (demands_still old new grown.rules grown.later IsAnswer old.requirements.items required);
 }
 
 pub wider_twice : (a b c : Archive) → IsWider a b → IsWider b c → IsWider a c

@@ -6,7 +6,7 @@ use Rattle.debian_scenario.specs.Packages.{PackageText}
 use Rattle.debian_installable.specs.Fields.{alternatives, is_blank}
 use Rattle.debian_installable.specs.Installable.{architecture_of, are_free, are_met, is_free, is_group_met}
 use Rattle.debian_installable.specs.Installable.{is_installable}
-use Rattle.debian_directory.specs.Answers.{NameText, is_answer, name_of}
+use Rattle.debian_directory.specs.Answers.{NameText, is_answer, keeps_all, name_of}
 use Rattle.debian_directory.specs.Answers.{has as is_there}
 use Rattle.debian_directory.specs.declared.rules.Rules.{Rules}
 use Rattle.resolvo_ids.specs.Types.VersionSetId.{VersionSetId}
@@ -34,6 +34,11 @@ module _ (rules : Rules) where
     pub known : All (Contains (packages_in rules)) there
     pub answers : is_answer (request_in rules) (packages_in rules) there ≡ true
 
+  -- an answer that keeps all that is to be kept
+  pub record IsKeeping (there : List PackageText) : Type 0 where
+    pub answer : IsAnswer there
+    pub keeps : keeps_all (request_in rules) (packages_in rules) there ≡ true
+
   -- the package can't be there
   abbrev pub IsNowhere : PackageText → Type 0
   IsNowhere one = (there : List PackageText) → IsThere one there → ⊥
@@ -60,9 +65,13 @@ module _ (rules : Rules) where
   IsPartFreeFor one part = is_blank part ≡ false → (there : List PackageText) → IsThere one there →
       is_free (native_in rules) there one (relation_of part) ≡ true
 
-  -- each answer has a version of the name
+  -- each such set of packages has a version of the name
+  abbrev pub IsWantedBy : (List PackageText → Type 0) → NameText → Type 0
+  IsWantedBy IsSuch name = (there : List PackageText) → IsSuch there → is_there (native_in rules) there name ≡ true
+
+  -- each answer has one
   abbrev pub IsWanted : NameText → Type 0
-  IsWanted name = (there : List PackageText) → IsAnswer there → is_there (native_in rules) there name ≡ true
+  IsWanted = IsWantedBy IsAnswer
 
   -- where the package is there, the set has all that is there of this name
   abbrev pub Spares : PackageText → NameText → SetText → Type 0

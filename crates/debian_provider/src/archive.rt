@@ -1,5 +1,5 @@
 //! The provider's data.
-ghost use Rattle.std.specs.Prelude.{◌≡◌, ◌≤◌, [], ◌++◌, length, IfOk, OnOk};
+ghost use Rattle.std.specs.Prelude.{◌≡◌, ◌≤◌, [], length, IfOk, OnOk};
 ghost use Rattle.std.specs.Option.{option_copied};
 
 use crate::reached::Reached;
@@ -22,8 +22,6 @@ pub struct Archive<'s, 't> {
     pub(crate) needs: Vec<Dependencies>,
     /// What has to be there, whatever else is.
     pub(crate) requirements: Vec<ConditionalRequirement>,
-    /// That each other name that is installed keeps a version.
-    pub(crate) kept: Vec<ConditionalRequirement>,
     /// That relations can't be read.
     pub(crate) unreadable: StringId,
 }
@@ -63,7 +61,6 @@ impl<'s, 't> Archive<'s, 't> {
             favored: Vec::new(alloc),
             needs: Vec::new(alloc),
             requirements: Vec::new(alloc),
-            kept: Vec::new(alloc),
             unreadable,
         })
     }
@@ -89,7 +86,7 @@ impl<'s, 't> Archive<'s, 't> {
         ensures closed { OnOk result (length self.new.reached.pool.solvables ≤ length self.new.needs.items) }
     {
         self.add_requested()?;
-        self.add_kept()?;
+        self.add_installed()?;
         self.read_reached()
     }
 
@@ -119,16 +116,6 @@ impl<'s, 't> Archive<'s, 't> {
         ensures { result.now ≡ self.now.requirements.items }
     {
         &self.requirements
-    }
-
-    /// What has to be there, and of each name that is installed a version, but for automatic ones with `Autoremove`.
-    pub fn requirements_to_keep(&self) -> Result<Vec<ConditionalRequirement>, StoreError>
-        ensures { IfOk result (λ all. all.items ≡ self.now.requirements.items ++ self.now.kept.items) }
-    {
-        let mut all = Vec::new(self.alloc);
-        all.extend_from_slice(&self.requirements)?;
-        all.extend_from_slice(&self.kept)?;
-        Ok(all)
     }
 
     /// The package of a solvable.

@@ -297,7 +297,8 @@ impl<'t> Archive<'_, 't> {
         Ok(())
     }
 
-    /// Adds, for the name of the package at a place, the set of those that a conflict spares, unless it spares it.
+    /// Adds, for the name of the package at a place, the set of those that a conflict spares, unless it spares it. A
+    /// conflict spares its package's own name.
     fn add_conflict_at(
         &mut self,
         one: &Package<'t>,
@@ -312,6 +313,9 @@ impl<'t> Archive<'_, 't> {
         let Some(other) = self.rules.packages.get(place) else {
             return Ok(());
         };
+        if other.identity.name == one.identity.name {
+            return Ok(());
+        }
         let own = self.rules.name_of(one);
         self.add_constraint(own, other, Set::Spared(relation), constrains)
     }

@@ -3,7 +3,7 @@ ghost use Rattle.std.specs.Prelude.{◌≡◌, Contains, IfOk, OnOk};
 ghost use Rattle.debian_directory.specs.Plain.{plain_name};
 ghost use Rattle.debian_provider.specs.Growing.{IsGrown};
 ghost use Rattle.debian_provider.specs.Needs.{IsOneOf, IsWanted};
-ghost use Rattle.debian_provider.specs.Reading.{IsWider};
+ghost use Rattle.debian_provider.specs.Reading.{AreKept, IsWhole, IsWider};
 
 use crate::archive::Archive;
 use crate::needs::push_requirement;
@@ -11,7 +11,7 @@ use crate::set::Set;
 use debian_directory::{Name, names_of};
 use debian_scenario::Package;
 use resolvo_ids::{SolvableId, StoreError};
-use resolvo_pool::Requirement;
+use resolvo_pool::{ConditionalRequirement, Requirement};
 
 impl<'t> Archive<'_, 't> {
     /// Adds the names of `Install`.
@@ -37,20 +37,19 @@ impl<'t> Archive<'_, 't> {
         push_requirement(&mut self.requirements, requirement)
     }
 
-    /// Adds that each name that is installed, and isn't to go, keeps a version: it has to, or it is to be tried.
-    pub(crate) fn add_kept(&mut self) -> Result<(), StoreError>
+    /// Brings in what is installed, and adds that a version of a name is there that has to stay.
+    pub(crate) fn add_installed(&mut self) -> Result<(), StoreError>
         ensures { OnOk result (IsWider self.old self.new) }
     {
         let packages = self.rules.packages;
         for one in packages {
-            self.add_installed(one)?;
+            self.add_if_installed(one)?;
         }
         Ok(())
     }
 
-    /// Adds that the name of a package keeps a version, if the package is installed. A name that is to go only comes
-    /// into the pool.
-    fn add_installed(&mut self, one: &Package<'t>) -> Result<(), StoreError>
+    /// Brings in the name of a package, if the package is installed, and adds that a version is there if one has to be.
+    fn add_if_installed(&mut self, one: &Package<'t>) -> Result<(), StoreError>
         ensures { Contains self.old.rules.packages.now one.now → OnOk result (IsWider self.old self.new) }
     {
         if !one.state.is_installed {
@@ -60,16 +59,43 @@ impl<'t> Archive<'_, 't> {
         if self.rules.must_stay(one) {
             return self.add_wanted(name);
         }
-        let requirement = self.requirement_of(name)?;
-        if self.rules.is_to_go(name) || !self.is_to_be_kept(one) {
-            return Ok(());
-        }
-        push_requirement(&mut self.kept, requirement)
+        self.reach(name)?;
+        Ok(())
     }
 
-    /// Whether an installed package is kept for its own sake.
-    fn is_to_be_kept(&self, one: &Package<'t>) -> bool {
-        !(one.state.is_automatic && self.rules.request.actions.autoremove)
+    /// What has to be there, and a version of each package that is to be kept.
+    pub fn requirements_to_keep(&mut self) -> Result<Vec<ConditionalRequirement>, StoreError>
+        requires { IsWhole self.old }
+        ensures rules { OnOk result (self.new.rules ≡ self.old.rules) }
+        ensures whole { OnOk result (IsWhole self.new) }
+        ensures kept { IfOk result (λ all. AreKept self.new all.items) }
+    {
+        let mut all = Vec::new(self.alloc);
+        all.extend_from_slice(&self.requirements)?;
+        let packages = self.rules.packages;
+        for one in packages {
+            self.add_to_keep(one, &mut all)?;
+        }
+        self.read_reached()?;
+        Ok(all)
+    }
+
+    /// Adds that the name of a package has a version, if the package is to be kept.
+    fn add_to_keep(
+        &mut self,
+        one: &Package<'t>,
+        requirements: &mut Vec<ConditionalRequirement>,
+    ) -> Result<(), StoreError>
+        ensures grown { OnOk result (IsGrown self.old self.new) }
+        ensures kept { Contains self.old.rules.packages.now one.now →
+            OnOk result (AreKept self.old requirements.old.items → AreKept self.new requirements.new.items) }
+    {
+        if !self.rules.is_to_be_kept(one) {
+            return Ok(());
+        }
+        let name = self.rules.name_of(one);
+        let requirement = self.requirement_of(name)?;
+        push_requirement(requirements, requirement)
     }
 
     /// Of each name that is asked for the version to try first, if it has one.

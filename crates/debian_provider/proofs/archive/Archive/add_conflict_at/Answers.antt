@@ -1,3 +1,4 @@
+use Rattle.std.proofs.Common.{◌∙◌, sym}
 use Rattle.debian_text.specs.Plain.{plain_relation}
 use Rattle.debian_scenario.specs.Plain.{plain_package}
 use Rattle.debian_directory.specs.Plain.{plain_name}
@@ -9,5 +10,5 @@ pub returns-clause-limits : goal.returns-clause-limits
 returns-clause-limits c =
     on_ok c.add_constraint.result _ _ (λ limits free. limits (plain_package c.args.one.now)
     (spares_conflict c.args.self.now.rules (plain_package c.args.one.now) (plain_package c.in-Some.other.now)
-    (plain_name c.name_of-own.result) c.name_of-own.ensures (plain_relation c.args.relation) free))
+    (plain_name c.name_of-own.result) (sym c.eq.ensures ∙ c.if-eq.false) (plain_relation c.args.relation) free))
     c.add_constraint.ensures.limits

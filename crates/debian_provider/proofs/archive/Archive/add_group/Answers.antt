@@ -1,8 +1,8 @@
 use Rattle.std.proofs.Common.{◌≡◌, ◌∙◌, [], None, Some, false, subst, sym}
 use Rattle.debian_scenario.specs.Plain.{plain_package}
 use Rattle.debian_installable.specs.Fields.{is_blank}
-use Rattle.debian_provider.specs.Needs.{AreDemanded, IsGroupOffered, sets_in}
-use Rattle.debian_provider.proofs.Demands.{demanded_more, group_demand, group_nowhere}
+use Rattle.debian_provider.specs.Needs.{AreDemanded, IsGroupOffered, IsThere, sets_in}
+use Rattle.debian_provider.proofs.Demands.{demands_more, group_demand, group_nowhere}
 use Rattle.debian_provider.proofs.Offered.{grown_itself}
 use Rattle.debian_provider.proofs.archive.Archive.add_group.Goals as goal
 
@@ -36,6 +36,7 @@ returns-clause-needs c =
     let offered = subst (λ found. IsGroupOffered new.rules new.reached.pool one (sets_in new.reached.pool found) group)
     c.in-Some.is c.in_ok-requirement.ensures.offered in
     λ met. subst (AreDemanded old new one requirements) (sym c.in_ok-push_requirement.ensures)
-    (demanded_more old new grown one requirements (record { condition = None; requirement = c.in-Some.requirement })
+    (demands_more old new grown.rules grown.later (λ r. IsThere r one) requirements
+    (record { condition = None; requirement = c.in-Some.requirement })
     (group_demand old.rules new.reached.pool one group (met fails) c.in-Some.requirement
     (subst (λ r. IsGroupOffered r new.reached.pool one sets group) grown.rules offered)))

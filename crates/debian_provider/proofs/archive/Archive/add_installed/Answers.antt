@@ -1,31 +1,14 @@
-use Rattle.std.proofs.Common.{◌≡◌, ◌∙◌, subst, sym, true}
-use Rattle.std.proofs.lemmas.Result.{on_ok_weaker}
-use Rattle.debian_scenario.specs.Plain.{plain_package}
-use Rattle.debian_directory.specs.Answers.{NameText, must_stay}
-use Rattle.debian_provider.specs.Growing.{packages_in, request_in}
-use Rattle.debian_provider.specs.Needs.{IsWanted}
 use Rattle.debian_provider.proofs.Offered.{grown_itself}
-use Rattle.debian_provider.proofs.Wants.{wanted_stays, wider_kept}
-use Rattle.debian_provider.proofs.Wider.{wider_by}
+use Rattle.debian_provider.proofs.Wants.{package_within}
+use Rattle.debian_provider.proofs.Wider.{wider_by, wider_twice}
 use Rattle.debian_provider.proofs.archive.Archive.add_installed.Goals as goal
 
-pub returns-then-not-one : goal.returns-then-not-one
-returns-then-not-one c = λ in'. wider_by c.args.self.now c.args.self.now (grown_itself c.args.self.now)
+pub loop-one-init : goal.loop-one-init
+loop-one-init c = wider_by c.args.self.now c.args.self.now (grown_itself c.args.self.now)
 
-pub returns-then-must_stay : goal.returns-then-must_stay
-returns-then-must_stay c = λ in'.
-    let rules = c.args.self.now.rules in
-    let one = c.args.one.now in
-    let must : must_stay (request_in rules) (packages_in rules) (plain_package one) ≡ true =
-    sym c.must_stay.ensures ∙ c.if-must_stay.true in
-    c.add_wanted.ensures (subst (λ (n : NameText). IsWanted rules n) (sym c.name_of-name.ensures)
-    (wanted_stays rules one in' must))
-
-pub returns-then-is_to_go : goal.returns-then-is_to_go
-returns-then-is_to_go c = λ in'.
-    wider_by c.args.self.now c.requirement_of.new.self c.in_ok-requirement.ensures.grown
-
-pub returns : goal.returns
-returns c = λ in'. on_ok_weaker c.push_requirement.result (λ pushed.
-    wider_kept c.args.self.now c.requirement_of.new.self c.in_ok-requirement.ensures.grown
-    c.push_requirement.new.requirements) c.push_requirement.ensures
+pub loop-one-preserved : goal.loop-one-preserved
+loop-one-preserved c =
+    let so_far = c.loop-one.invariant in
+    wider_twice c.args.self.now c.loop-one.self c.add_if_installed.new.self so_far
+    (c.in_ok-add_if_installed.ensures (package_within c.args.self.now.rules c.loop-one.self.rules so_far.rules
+    c.loop-one.one-index _ c.loop-one-test.true))

@@ -4,7 +4,7 @@ use Rattle.std.proofs.lemmas.Bool.{MatchBool-at_false, MatchBool-at_true}
 use Rattle.std.proofs.lemmas.List.Elements.{All-nil}
 use Rattle.debian_scenario.specs.Plain.{plain_package}
 use Rattle.debian_provider.specs.Needs.{IsDemand, IsLimit, IsNowhere, IsThere}
-use Rattle.debian_provider.proofs.Demands.{demanded_still}
+use Rattle.debian_provider.proofs.Demands.{demands_still}
 use Rattle.debian_provider.proofs.Offered.{grown_twice}
 use Rattle.debian_provider.proofs.archive.Archive.read_needs.Goals as goal
 
@@ -33,8 +33,9 @@ returns-clause-needs c =
     let old = c.args.self.now in
     let mid = c.add_requirements.new.self in
     let new = c.add_constraints.new.self in
-    let one = plain_package c.args.one.now in (
-      demanded_still mid new c.in_ok-add_constraints.ensures.grown one c.add_requirements.new.requirements.items
+    let one = plain_package c.args.one.now in
+    let grown = c.in_ok-add_constraints.ensures.grown in (
+      demands_still mid new grown.rules grown.later (λ r. IsThere r one) c.add_requirements.new.requirements.items
           (MatchBool-at_true _ _ c.if-not-branch.false c.in_ok-add_requirements.ensures.needs
           (subst (All (IsDemand old.rules old.reached.pool (IsThere old.rules one)))
           (sym c.new-known.ensures.requirements)

@@ -1,0 +1,14 @@
+use Rattle.std.proofs.Common.{subst}
+use Rattle.std.proofs.lemmas.Result.{IfOk-weaker}
+use Rattle.apt_solver.specs.Search.{IsFound}
+use Rattle.apt_solver.proofs.Known.{none_said}
+use Rattle.apt_solver.proofs.answering.found_text.Goals as goal
+
+pub answer_places-requires : goal.answer_places-requires
+answer_places-requires c = subst (IsFound c.args.rules.now) c.in-Packages.is c.requires
+
+pub returns-in-NoAnswer : goal.returns-in-NoAnswer
+returns-in-NoAnswer c =
+    IfOk-weaker c.none_text.result _ _
+    (λ said. none_said c.args.rules.now said.items _ (subst (IsFound c.args.rules.now) c.in-NoAnswer.is c.requires))
+    c.none_text.ensures

@@ -1,0 +1,20 @@
+use Rattle.std.proofs.Common.{refl}
+use Rattle.std.proofs.lemmas.Result.{IfOk-weaker}
+use Rattle.debian_provider.specs.Needs.{IsKeeping}
+use Rattle.apt_solver.proofs.Stays.{found_before, stays_twice}
+use Rattle.apt_solver.proofs.solving.keep_all.Goals as goal
+
+pub search-requires : goal.search-requires
+search-requires c = c.in_ok-wishes.ensures.whole c.requires
+
+pub returns-clause-stays : goal.returns-clause-stays
+returns-clause-stays c =
+    IfOk-weaker c.search.result _ _
+    (λ _ second. stays_twice c.args.archive.now c.wishes_beside.new.archive c.search.new.archive
+    c.in_ok-wishes.ensures second) c.search.ensures.stays
+
+pub returns-clause-none : goal.returns-clause-none
+returns-clause-none c =
+    IfOk-weaker c.search.result _ _
+    (found_before IsKeeping c.args.archive.now c.wishes_beside.new.archive c.in_ok-wishes.ensures)
+    (c.search.ensures.kept refl)
