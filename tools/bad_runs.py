@@ -76,9 +76,9 @@ def error(message):
 INSTALL = r"Install: \d+\nPackage: [a-z0-9]+\nVersion: \d+\nArchitecture: amd64\n\n"
 # What it says of a scenario is in docs/APT.md.
 SOLVER = {
-    "cut": (0, error("the scenario doesn't end with an empty line"), ""),
-    "request": (0, error("the request of the scenario: .*"), ""),
-    "package": (0, error(r"package \d+ of the scenario: .*"), ""),
+    "cut": (0, error("not answered: the scenario doesn't end with an empty line"), ""),
+    "request": (0, error("not answered: the request of the scenario: .*"), ""),
+    "package": (0, error(r"not answered: package \d+ of the scenario: .*"), ""),
     "no solution": (0, error(r"there is no solution(\n .*)*"), ""),
     "a": (0, INSTALL, ""),
     "a b": (0, f"({INSTALL}){{2}}", ""),
