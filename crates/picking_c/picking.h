@@ -26,8 +26,8 @@ enum {
     NIVOLAKKU_TOO_SMALL = 4
 };
 
-/* Where an answer names a version: at which byte the package's name begins, and at which the version, and how many
- * bytes they have. */
+/* Where an answer names a version: at which bytes the package's name and the version begin, and how many bytes each
+ * of them has. */
 struct nivolakku_version {
     size_t name;
     size_t name_length;

@@ -3,8 +3,8 @@ ghost use Rattle.std.specs.Prelude.{◌≡◌, ◌≤◌, ◌+◌, ◌^◌, ◌<
 ghost use Rattle.std.specs.List.{position, slice_split};
 ghost use Rattle.call_texts.specs.Versions.{filled, version_at, versions_in};
 
-/// Where an answer names a version: at which byte the name of its package begins, and at which the version, and how
-/// many bytes they have.
+/// Where an answer names a version: at which bytes the name of its package and the version begin, and how many bytes
+/// each of them has.
 #[repr(C)]
 #[derive(Clone, Copy, Debug)]
 pub struct Version {
@@ -37,7 +37,7 @@ pub fn versions_in(answer: &[u8], buffer: &mut [Version]) -> usize
     count
 }
 
-/// The version of a line that begins at this byte, if it is a name, a blank and a version.
+/// The version of a line that begins at this byte, if the line is a name, a blank and a version.
 fn version_at(at: usize, line: &[u8]) -> Option<Version>
     requires { at + length line.now < 2 ^ 64 }
     ensures { result ≡ version_at at (slice_split (λ b. b == 32) line.now) }
@@ -65,7 +65,7 @@ fn put(buffer: &mut [Version], place: usize, version: Version)
     }
 }
 
-/// What is before the first such byte of a text, and what is behind it.
+/// What is before the first `byte` of a text, and what is behind it.
 fn split_first(text: &[u8], byte: u8) -> Option<(&[u8], &[u8])>
     ensures parts { MatchOption result (slice_split (λ b. b == byte) text.now ≡ text.now ∷ [])
         (λ r. slice_split (λ b. b == byte) text.now ≡ r.0.now ∷ slice_split (λ b. b == byte) r.1.now) }
@@ -77,7 +77,7 @@ fn split_first(text: &[u8], byte: u8) -> Option<(&[u8], &[u8])>
     Some((&text[..end], &text[end + 1..]))
 }
 
-/// Where a text has the first such byte.
+/// Where a text has its first `byte`.
 fn position(text: &[u8], byte: u8) -> Option<usize>
     ensures is { result ≡ position (λ b. b == byte) text.now }
     ensures within { IfSome result (λ i. i < length text.now) }

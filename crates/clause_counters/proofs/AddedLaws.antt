@@ -2,20 +2,12 @@
 use Rattle.std.proofs.Common.{◌≡◌, ℕ, ◌+◌, ◌≤◌, Bool, cond, eqb, List, [], ◌∷◌, ◌++◌, length}
 use Rattle.std.proofs.Common.{get_or}
 use Rattle.std.proofs.Common.{refl, sym, ap, ◌∙◌, subst, arith}
-use Rattle.std.specs.List.{All}
 use Rattle.std.proofs.lemmas.List.{length_push, length-map, map_push}
-use Rattle.decisions.specs.Literals.{Lit}
-use Rattle.decisions.specs.LiteralIndex.{literal_index, literal_at, literal_index-literal_at, literal_index-injective}
-use Rattle.clause_counters.specs.declared.links.Link.{Link}
-use Rattle.clause_counters.specs.declared.groups.Standing.{Standing}
-use Rattle.clause_counters.specs.declared.groups.Group.{Group}
-use Rattle.clause_counters.specs.Links.{numbers_at, count}
-use Rattle.clause_counters.specs.Counted.{standing_at, no_group, group_at}
-use Rattle.clause_counters.specs.Counted.{clause_lists}
-use Rattle.clause_counters.specs.Adding.{AreFlagged}
-use Rattle.clause_counters.specs.CounterState.{Stood, counters_in, stood_at}
-use Rattle.clause_counters.specs.GroupedClauses.{GroupedClauses, GroupClause, no_group_clause, Represents, once}
-use Rattle.clause_counters.specs.GroupedClauses.{with_group, with_clause}
+use Rattle.clause_counters.proofs.Words.{All, AreFlagged, clause_lists, count, counters_in, Group, group_at}
+use Rattle.clause_counters.proofs.Words.{GroupClause, GroupedClauses, Link, Lit, literal_at, literal_index}
+use Rattle.clause_counters.proofs.Words.{literal_index-injective, literal_index-literal_at, no_group, no_group_clause}
+use Rattle.clause_counters.proofs.Words.{numbers_at, once, Represents, Standing, standing_at, Stood, stood_at}
+use Rattle.clause_counters.proofs.Words.{with_clause, with_group}
 use Rattle.clause_counters.proofs.ListLaws.{pushed_field, pushed_count}
 use Rattle.clause_counters.proofs.FlagLaws.{stood_kept}
 use Rattle.clause_counters.proofs.ShownLaws.{clauses_kept}

@@ -6,14 +6,10 @@ use Rattle.std.proofs.Math.Bool.{or-true, or-false}
 use Rattle.std.proofs.lemmas.Bool.{cases_eq, eq-eqb, ne_eqb, false≢true}
 use Rattle.std.proofs.lemmas.List.{get_or-set_same, get_or-set_other, get_or_append_left, get_or_push, length_push}
 use Rattle.std.proofs.lemmas.List.{length-set}
-use Rattle.clause_counters.specs.declared.links.Link.{Link}
-use Rattle.clause_counters.specs.declared.groups.Standing.{Standing}
-use Rattle.clause_counters.specs.declared.groups.Group.{Group}
-use Rattle.clause_counters.specs.Links.{no_link, link_at, numbers_at, count}
-use Rattle.clause_counters.specs.Counted.{no_standing, standing_at, no_group, group_at, all_places, open_places}
-use Rattle.clause_counters.specs.Counted.{all_members, open_members}
-use Rattle.clause_counters.specs.Adding.{IsStanding, IsMember, initial_flag, with_place, placed_at, with_member}
-use Rattle.clause_counters.specs.Adding.{joined_at, AreFlagged, is_newest, with_place_once, placed_once}
+use Rattle.clause_counters.proofs.Words.{all_members, all_places, AreFlagged, count, Group, group_at, initial_flag}
+use Rattle.clause_counters.proofs.Words.{is_newest, IsMember, IsStanding, joined_at, Link, link_at, no_group, no_link}
+use Rattle.clause_counters.proofs.Words.{no_standing, numbers_at, open_members, open_places, placed_at, placed_once}
+use Rattle.clause_counters.proofs.Words.{Standing, standing_at, with_member, with_place, with_place_once}
 use Rattle.clause_counters.proofs.ListLaws.{field_kept}
 use Rattle.clause_counters.proofs.PoolLaws.{lists_pushed, within_pushed, pool_pushed, all_pushed, open_pushed}
 use Rattle.clause_counters.proofs.CountLaws.{no_term, first_counted}

@@ -3,9 +3,7 @@ use Rattle.std.proofs.Common.{◌≡◌, ◌≢◌, ℕ, ◌<◌, ◌≤◌, Boo
 use Rattle.std.proofs.Common.{refl, sym, ap, ◌∙◌, subst, arith, inl, inr}
 use Rattle.std.proofs.lemmas.Bool.{cases_lt}
 use Rattle.std.proofs.lemmas.List.{get_or-set_same, get_or-set_other, map-set, get_or-map, get_or_past, length-map}
-use Rattle.clause_counters.specs.declared.falsified_heap.Clause.{Clause}
-use Rattle.clause_counters.specs.FalsifiedHeap.{heap_clause, with_mark, tallied, no_heap_clause, lefts_of}
-use Rattle.clause_counters.specs.FalsifiedHeap.{firsts_of}
+use Rattle.clause_counters.proofs.Words.{Clause, firsts_of, heap_clause, lefts_of, no_heap_clause, tallied, with_mark}
 use Rattle.clause_counters.proofs.ListLaws.{field_kept, fields_kept, pushed_field}
 
 -- the clause that was marked, and the others

@@ -4,10 +4,8 @@ use Rattle.std.proofs.Common.{refl, ap, arith, inl, inr}
 use Rattle.std.proofs.lemmas.Bool.{cases_lt, eq-eqb, ne_eqb}
 use Rattle.std.proofs.lemmas.List.{get_or_past}
 use Rattle.std.proofs.lemmas.List.Sums.{get_or-le-sum_by}
-use Rattle.clause_counters.specs.declared.links.Link.{Link}
-use Rattle.clause_counters.specs.declared.groups.Group.{Group}
-use Rattle.clause_counters.specs.Links.{link_at, IsLinked, numbers_at, count}
-use Rattle.clause_counters.specs.Counted.{no_group, group_at, with_left, clause_lists, all_members, open_members}
+use Rattle.clause_counters.proofs.Words.{all_members, clause_lists, count, Group, group_at, IsLinked, Link, link_at}
+use Rattle.clause_counters.proofs.Words.{no_group, numbers_at, open_members, with_left}
 use Rattle.clause_counters.proofs.ListLaws.{fields_kept, number_told}
 use Rattle.clause_counters.proofs.OpenSums.{open_part, closed_part}
 use Rattle.clause_counters.proofs.LinkLaws.{count_unrolled}

@@ -1,6 +1,6 @@
 -- The first of the clauses that pass a test, under another test and other parents that say the same.
 use Rattle.std.proofs.Common.{◌≡◌, ℕ, ◌<◌, Bool, Option, Some, None, ◌||◌, ◌&&◌, eqb, ltb, sym, ap, ◌∙◌, subst}
-use Rattle.clause_counters.specs.First.{IsFirstOf}
+use Rattle.clause_counters.proofs.Words.{IsFirstOf}
 
 pub same_first_of : (first first' : ℕ → ℕ) (count count' : ℕ) (passes passes' : ℕ → Bool) (answer : Option ℕ)
     → ((c : ℕ) → c < count' → first c ≡ first' c) → count ≡ count'

@@ -4,15 +4,10 @@ use Rattle.std.proofs.Common.{sym, ap, ◌∙◌, subst, inl, inr}
 use Rattle.std.proofs.lemmas.Bool.{cases_lt}
 use Rattle.std.proofs.lemmas.List.{get_or_past, length-map, map-set, get_or-map}
 use Rattle.std.proofs.lemmas.List.Sums.{get_or-le-sum_by}
-use Rattle.clause_counters.specs.declared.links.Link.{Link}
-use Rattle.clause_counters.specs.declared.groups.Standing.{Standing}
-use Rattle.clause_counters.specs.declared.groups.Group.{Group}
-use Rattle.clause_counters.specs.Links.{numbers_at, count}
-use Rattle.clause_counters.specs.Counted.{no_standing, standing_at, all_places, open_places}
-use Rattle.clause_counters.specs.Counted.{clause_lists}
+use Rattle.clause_counters.proofs.Words.{all_places, clause_lists, count, counters_in, CounterState, Group}
+use Rattle.clause_counters.proofs.Words.{IsSameButRoom, Link, no_standing, nowhere, numbers_at, open_places, Standing}
+use Rattle.clause_counters.proofs.Words.{standing_at, Stood, stood_in, with_flag}
 use Rattle.clause_counters.proofs.OpenSums.{open_part, closed_part}
-use Rattle.clause_counters.specs.CounterState.{CounterState, Stood, stood_in, counters_in, with_flag, nowhere}
-use Rattle.clause_counters.specs.CounterState.{IsSameButRoom}
 
 -- the literal is told to be false, or not to be
 abbrev pub flagged : Bool → ℕ → List Standing → List Standing

@@ -2,20 +2,14 @@
 use Rattle.std.proofs.Common.{◌≡◌, ℕ, ◌+◌, ◌-◌, ◌<◌, ◌≤◌, ◌^◌, Bool, true, false, cond, eqb, ltb, List, [], ◌∷◌, ◌++◌}
 use Rattle.std.proofs.Common.{length, get_or}
 use Rattle.std.proofs.Common.{refl, sym, ap, ◌∙◌, subst, arith, inl, inr, Option, Some, None, ◌||◌, ◌&&◌}
-use Rattle.std.specs.Prelude.{slice_index}
-use Rattle.std.specs.Ordering.{is_lt, ordering_then}
-use Rattle.std.specs.declared.cmp.Ordering.TheVariants.{Less, Equal, Greater}
-use Rattle.std.specs.declared.cmp.Reverse.{Reverse}
 use Rattle.std.proofs.lemmas.Bool.{cases_eq, cases_lt, eq-eqb, eqb-true, ltb-true, ne_eqb, true≢false, and_parts}
 use Rattle.std.proofs.lemmas.List.{length-set, length-map, get_or_append_left}
 use Rattle.std.proofs.lemmas.List.{get_or_push, length_push}
 use Rattle.std.proofs.lemmas.List.Elements.{All-from_recursion, All-get_or}
-use Rattle.clause_counters.specs.declared.position.Position.{Position}
-use Rattle.clause_counters.specs.declared.falsified_heap.Clause.{Clause}
-use Rattle.clause_counters.specs.FalsifiedHeap.{IsHeld, IsFalsifiedHeap, heap_clause, with_mark, no_heap_clause}
-use Rattle.clause_counters.specs.FalsifiedHeap.{fits_one, heap_cmp, heap_position_cmp, lefts_of, firsts_of}
-use Rattle.clause_counters.specs.FalsifiedHeap.{IsTop, IsFirst}
-use Rattle.clause_counters.specs.First.{is_before}
+use Rattle.clause_counters.proofs.Words.{Clause, Equal, firsts_of, fits_one, Greater, heap_clause, heap_cmp}
+use Rattle.clause_counters.proofs.Words.{heap_position_cmp, is_before, is_lt, IsFalsifiedHeap, IsFirst, IsHeld, IsTop}
+use Rattle.clause_counters.proofs.Words.{lefts_of, Less, no_heap_clause, ordering_then, Position, Reverse, slice_index}
+use Rattle.clause_counters.proofs.Words.{with_mark}
 use Rattle.clause_counters.proofs.ListLaws.{found}
 use Rattle.clause_counters.proofs.ClauseLaws.{at_marked, at_others, left_kept, mark_pushed, lefts_at}
 use Rattle.clause_counters.proofs.ClauseLaws.{firsts_at}

@@ -2,19 +2,14 @@
 use Rattle.std.proofs.Common.{◌≡◌, ◌≢◌, ℕ, ◌+◌, ◌<◌, ◌≤◌, ◌^◌, Bool, true, false, cond, eqb, List, [], ◌∷◌, ◌++◌}
 use Rattle.std.proofs.Common.{length, get_or}
 use Rattle.std.proofs.Common.{refl, sym, ap, ◌∙◌, subst, arith, inl, inr, Option, Some, None}
-use Rattle.std.specs.Prelude.{Result, Ok, Err, IsOk, OnOk, IsSome, IfSome}
-use Rattle.std.specs.List.{All, count_by}
-use Rattle.std.specs.List.Sorted.{IsPermutation}
-use Rattle.std.specs.BinaryHeap.{IsHeap}
-use Rattle.std.specs.declared.cmp.Reverse.{Reverse}
 use Rattle.std.proofs.lemmas.Bool.{cases_eq, cases_lt, eq-eqb, ne_eqb, false≢true}
 use Rattle.std.proofs.lemmas.List.{length-set, get_or_past, get_or_default, get_or_append_left, length_push}
 use Rattle.std.proofs.lemmas.List.Elements.{All-get_or, All-cons, All-weaker, All-tail}
 use Rattle.std.proofs.lemmas.List.Sorted.{All-permutation, sum_by-IsPermutation, length_permutation}
 use Rattle.std.proofs.lemmas.List.Sums.{count_by-le-length, get_or-le-sum_by, sum_by-cons, sum_by-set, sum_by_push}
-use Rattle.clause_counters.specs.declared.position.Position.{Position}
-use Rattle.clause_counters.specs.declared.falsified_heap.Clause.{Clause}
-use Rattle.clause_counters.specs.FalsifiedHeap.{IsHeld, heap_clause, with_mark, no_heap_clause, heap_cmp, IsTop}
+use Rattle.clause_counters.proofs.Words.{All, Clause, count_by, Err, heap_clause, heap_cmp, IfSome, IsHeap, IsHeld}
+use Rattle.clause_counters.proofs.Words.{IsOk, IsPermutation, IsSome, IsTop, no_heap_clause, Ok, OnOk, Position, Result}
+use Rattle.clause_counters.proofs.Words.{Reverse, with_mark}
 use Rattle.clause_counters.proofs.ClauseLaws.{at_marked, at_others, first_kept}
 use Rattle.clause_counters.proofs.ClauseLaws.{mark_pushed}
 

@@ -11,3 +11,4 @@ pub mod ListLaws
 pub mod OpenSums
 pub mod PoolLaws
 pub mod ShownLaws
+pub mod Words

@@ -4,8 +4,7 @@ use Rattle.std.proofs.Common.{refl, sym, ap, ◌∙◌, subst, arith, inl, inr}
 use Rattle.std.proofs.lemmas.Bool.{cases_eq, cases_lt}
 use Rattle.std.proofs.lemmas.List.{get_or_append_left, get_or_push, get_or_past, length_push}
 use Rattle.std.proofs.lemmas.List.Sums.{sum_by-cons}
-use Rattle.clause_counters.specs.declared.links.Link.{Link}
-use Rattle.clause_counters.specs.Links.{no_link, link_at, IsLinked, listed_within, numbers_at, count}
+use Rattle.clause_counters.proofs.Words.{count, IsLinked, Link, link_at, listed_within, no_link, numbers_at}
 
 -- a list is within as many numbers as its place
 enough : (links : List Link) → IsLinked links → (a b list : ℕ) → list ≤ a → list ≤ b

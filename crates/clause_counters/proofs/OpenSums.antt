@@ -1,8 +1,8 @@
 -- Sums over rows that are closed or open: a closed one adds nothing.
 use Rattle.std.proofs.Common.{◌≡◌, ℕ, zero, suc, ◌+◌, ◌<◌, ◌≤◌, Bool, true, false, cond, List, [], ◌∷◌, length, get_or}
 use Rattle.std.proofs.Common.{ap, arith}
-use Rattle.std.specs.List.{sum_by}
 use Rattle.std.proofs.lemmas.List.Sums.{get_or-le-sum_by, sum_by-le-sum_by, sum_by-cons}
+use Rattle.clause_counters.proofs.Words.{sum_by}
 
 module _ {R : Type 0} (closed : R → Bool) (number : R → ℕ) (nothing : R) where
   abbrev open_number : R → ℕ

@@ -4,12 +4,10 @@ use Rattle.std.proofs.Common.{◌≡◌, ℕ, ◌+◌, ◌<◌, ◌≤◌, ◌�
 use Rattle.std.proofs.Common.{length, get_or, set}
 use Rattle.std.proofs.Common.{refl, sym, ap, ◌∙◌, subst, arith, inl, inr}
 use mir.Val.{bool_byte}
-use Rattle.std.specs.List.{sum_by}
 use Rattle.std.proofs.lemmas.Bool.{cases_eq, eq-eqb, ne_eqb, true≢false, false≢true}
 use Rattle.std.proofs.lemmas.List.{get_or-set_same, get_or-set_other, length_push}
 use Rattle.std.proofs.lemmas.List.Sums.{sum_by-cons, sum_by-set}
-use Rattle.clause_counters.specs.declared.links.Link.{Link}
-use Rattle.clause_counters.specs.Links.{numbers_at, count, IsLinked}
+use Rattle.clause_counters.proofs.Words.{count, IsLinked, Link, numbers_at, sum_by}
 use Rattle.clause_counters.proofs.ListLaws.{sum_same}
 use Rattle.clause_counters.proofs.LinkLaws.{listed_kept, listed_pushed, linked_pushed}
 

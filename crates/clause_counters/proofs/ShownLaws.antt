@@ -2,26 +2,16 @@
 use Rattle.std.proofs.Common.{◌≡◌, ℕ, ◌<◌, ◌≤◌, Bool, true, false, not, ◌||◌, ◌&&◌, cond, eqb, List, [], length}
 use Rattle.std.proofs.Common.{get_or, map, Option, Some, None}
 use Rattle.std.proofs.Common.{refl, sym, ap, ◌∙◌, subst, arith, inl, inr}
-use Rattle.std.specs.Prelude.{slice_index}
-use Rattle.std.specs.List.{list_any, list_all}
 use Rattle.std.proofs.lemmas.Bool.{cases_eq, cases_lt, eq-eqb, ne_eqb, eqb-true, false≢true}
 use Rattle.std.proofs.lemmas.List.{get_or_past, length-map, get_or-map, get_or-set_same, get_or-set_other}
 use Rattle.std.proofs.lemmas.List.Folds.{Any-from_list_any, list_any_at}
 use Rattle.std.proofs.lemmas.List.Sums.{AllPass-from_list_all, list_all-from_AllPass}
-use Rattle.decisions.specs.Literals.{Lit}
-use Rattle.decisions.specs.LiteralIndex.{literal_index}
-use Rattle.clause_counters.specs.declared.links.Link.{Link}
-use Rattle.clause_counters.specs.declared.groups.Standing.{Standing}
-use Rattle.clause_counters.specs.declared.groups.Group.{Group}
-use Rattle.clause_counters.specs.Links.{numbers_at, count}
-use Rattle.clause_counters.specs.FalsifiedHeap.{IsFirst}
-use Rattle.clause_counters.specs.Counted.{no_standing, standing_at, no_group, group_at, CountsPlaces, clause_lists}
-use Rattle.clause_counters.specs.Counted.{CountsMembers}
-use Rattle.clause_counters.specs.CounterState.{CounterState, Stood, counters_in, with_flag, nowhere, stood_at}
-use Rattle.clause_counters.specs.CounterState.{IsSameButRoom}
-use Rattle.clause_counters.specs.GroupedClauses.{GroupedClauses, GroupClause, no_group_clause, Represents}
-use Rattle.clause_counters.specs.GroupedClauses.{grouped_clause, literals_of_group, has_index}
-use Rattle.clause_counters.specs.GroupedClauses.{once, is_falsified, IsFirstFalsified}
+use Rattle.clause_counters.proofs.Words.{clause_lists, count, counters_in, CounterState, CountsMembers, CountsPlaces}
+use Rattle.clause_counters.proofs.Words.{Group, group_at, GroupClause, grouped_clause, GroupedClauses, has_index}
+use Rattle.clause_counters.proofs.Words.{is_falsified, IsFirst, IsFirstFalsified, IsSameButRoom, Link, list_all}
+use Rattle.clause_counters.proofs.Words.{list_any, Lit, literal_index, literals_of_group, no_group, no_group_clause}
+use Rattle.clause_counters.proofs.Words.{no_standing, nowhere, numbers_at, once, Represents, slice_index, Standing}
+use Rattle.clause_counters.proofs.Words.{standing_at, Stood, stood_at, with_flag}
 use Rattle.clause_counters.proofs.ListLaws.{found, field_kept, sum_none, counted_there}
 use Rattle.clause_counters.proofs.CountLaws.{of_open_group}
 use Rattle.clause_counters.proofs.FirstLaws.{same_first_of}

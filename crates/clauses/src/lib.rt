@@ -1,9 +1,9 @@
 //! Clauses: what packages ask of each other, as literals of which one has to be true.
 //!
-//! `clause` has the ten kinds, and `disjunction` the literals of a condition. `literal_walk` walks over the literals of
-//! a clause where they are kept; what the stores hold is read by `specs/Stored`. `clause_text` has their texts
-//! (`specs/ClauseTexts`). What the literals of a clause are, which two a new one watches, and when it is a conflict is
-//! said once, in `specs/Clauses`, one line a kind.
+//! `clause` has the ten kinds, and `disjunction` the literals that negate a part of a condition. `literal_walk`
+//! walks over a clause's literals in place; `specs/Stored` has what clauses refer to by ids.
+//! `clause_text` has the clauses' texts (`specs/ClauseTexts`). `specs/Clauses` says for each kind which literals a
+//! clause has, which two a new one watches, and when it counts as a conflict.
 #![tactic(auto)]
 
 mod clause;

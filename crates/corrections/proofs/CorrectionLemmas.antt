@@ -2,26 +2,18 @@
 use Rattle.std.proofs.Common.{◌≡◌, ◌∙◌, ℕ, ◌+◌, ◌<◌, ◌≤◌, Bool, true, false, List, [], ◌∷◌, ◌++◌, ap}
 use Rattle.std.proofs.Common.{None, Some, length, take, replicate, get_or, refl, sym, subst, true≢false, arith, inl}
 use Rattle.std.proofs.Common.{inr}
-use Rattle.std.specs.Prelude.{Result, Ok, Err, IfOk}
-use Rattle.std.specs.List.{All, Contains}
-use Rattle.std.specs.declared.vec.Vec.{Vec}
 use Rattle.std.proofs.lemmas.Bool.{cases_lt}
 use Rattle.std.proofs.lemmas.List.{get_or-take, get_or_append_left, get_or_default, get_or_push, length-take-le}
 use Rattle.std.proofs.lemmas.List.{length_push}
 use Rattle.std.proofs.lemmas.List.Elements.{All-more, Contains-get_or}
-use Rattle.resolvo_pool.specs.Functions.{Provider}
-use Rattle.resolvo_pool.specs.Types.ConditionalRequirement.{ConditionalRequirement}
-use Rattle.solutions.specs.Reasons.{AreEnough, AreSo, IsSo}
-use Rattle.solutions.specs.Solutions.{IsUnsolvable}
-use Rattle.solutions.specs.declared.reason.Reason.{Reason}
-use Rattle.solutions.specs.declared.reason.Reason.TheVariants as R
 use Rattle.solutions.proofs.ReasonLaws.{none_by_reasons}
-use Rattle.corrections.specs.Corrections.{AreNamedMarked, IsConflict, IsCover, IsNamed, IsNamedBy, IsSmallest}
-use Rattle.corrections.specs.Marks.{AreApart, Extends, HasNone, IsWithin, is_marked, kept, size}
-use Rattle.corrections.specs.Outcomes.{IfFound}
-use Rattle.corrections.specs.declared.correcting.Level.{Level}
-use Rattle.corrections.specs.declared.correcting.Level.TheVariants as L
+use Rattle.corrections.proofs.Words.{All, AreApart, AreEnough, AreNamedMarked, AreSo, ConditionalRequirement, Contains}
+use Rattle.corrections.proofs.Words.{Err, Extends, HasNone, IfFound, IfOk, is_marked, IsConflict, IsCover, IsNamed}
+use Rattle.corrections.proofs.Words.{IsNamedBy, IsSmallest, IsSo, IsUnsolvable, IsWithin, kept, Level, Ok, Provider}
+use Rattle.corrections.proofs.Words.{Reason, Result, size, Vec}
 use Rattle.corrections.proofs.MarkLemmas.{kept_has, kept_place, size-le, unmarked}
+use Rattle.solutions.specs.declared.reason.Reason.TheVariants as R
+use Rattle.corrections.specs.declared.correcting.Level.TheVariants as L
 
 module _ {N S : Type 0} (p : Provider N S) (requested : List ConditionalRequirement) where
   -- where one of these sets is left out, and none of the next ones, there is no solution

@@ -1,3 +1,4 @@
 pub mod CorrectionLemmas
 pub mod MarkLemmas
 pub mod ProposalLemmas
+pub mod Words

@@ -2,13 +2,11 @@
 use Rattle.std.proofs.Common.{◌≡◌, ◌∙◌, ◌≢◌, ℕ, ◌+◌, ◌<◌, ◌≤◌, suc, zero, Bool, true, false, cond, List, [], ◌∷◌}
 use Rattle.std.proofs.Common.{◌++◌, length, take, replicate, get_or, set, ap, refl, sym, subst, true≢false, arith}
 use Rattle.std.proofs.Common.{inl, inr, add-one, zero-add}
-use Rattle.std.specs.List.{All, Any, Contains}
-use Rattle.std.specs.declared.vec.Vec.{Vec}
 use Rattle.std.proofs.lemmas.Bool.{cases_eq}
 use Rattle.std.proofs.lemmas.List.{get_or-set_other, take_at}
 use Rattle.std.proofs.lemmas.List.Elements.{All-contains, All-take, Contains-push}
 use Rattle.std.proofs.lemmas.List.Sums.{sum_by-cons}
-use Rattle.corrections.specs.Marks.{ExtendsAt, HasNone, IsWithin, is_marked, kept, size}
+use Rattle.corrections.proofs.Words.{All, Any, Contains, ExtendsAt, HasNone, is_marked, IsWithin, kept, size, Vec}
 
 size-marked : (marks : List Bool) → size (true ∷ marks) ≡ 1 + size marks
 size-marked marks = sum_by-cons (λ mark. cond mark 1 0) true marks

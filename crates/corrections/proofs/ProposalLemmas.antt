@@ -1,15 +1,11 @@
 -- Why a request that has what the reasons name has no solution; and texts.
 use Rattle.std.proofs.Common.{◌≡◌, ◌∙◌, ℕ, ◌<◌, zero, suc, true, List, [], ◌∷◌, ◌++◌, Option, None, Some}
 use Rattle.std.proofs.Common.{ap, append_assoc, arith, get_or, length, refl, subst, sym}
-use Rattle.std.specs.List.{All, Contains, cons_option}
 use Rattle.std.proofs.lemmas.List.Elements.{All-contains}
-use Rattle.resolvo_pool.specs.Functions.{Provider}
-use Rattle.resolvo_pool.specs.Types.ConditionalRequirement.{ConditionalRequirement}
-use Rattle.solutions.specs.Reasons.{AreEnough, AreSo, IsSo}
-use Rattle.solutions.specs.declared.reason.Reason.{Reason}
-use Rattle.solutions.specs.declared.reason.Reason.TheVariants as R
 use Rattle.solutions.proofs.ReasonLaws.{none_by_reasons}
-use Rattle.corrections.specs.Proposals.{IsForbidden, named_in, requirement_in}
+use Rattle.corrections.proofs.Words.{All, AreEnough, AreSo, ConditionalRequirement, cons_option, Contains, IsForbidden}
+use Rattle.corrections.proofs.Words.{IsSo, named_in, Provider, Reason, requirement_in}
+use Rattle.solutions.specs.declared.reason.Reason.TheVariants as R
 
 -- what is in a list is in a longer one
 still_in : {X : Type 0} (head : Option X) (xs : List X) (x : X) → Contains xs x → Contains (cons_option head xs) x

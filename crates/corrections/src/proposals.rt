@@ -1,4 +1,4 @@
-//! Which requirements to leave out of a request, by the reasons for which it has no solution.
+//! Which requirements to leave out of a request, by the reasons why it has no solution.
 ghost use Rattle.std.specs.Prelude.{◌≡◌, IfOk, List, OnOk};
 ghost use Rattle.corrections.specs.Proposals.{IsForbidden, named_in, requirement_in, text_of_all, text_of_each};
 ghost use Rattle.corrections.specs.Proposals.{text_of_named, text_of_proposals, text_of_requirement};
@@ -34,7 +34,7 @@ pub fn write_proposals<D: DependencyProvider>(
     Ok(text.push_str("\n")?)
 }
 
-/// The requirements of the request that the reasons name, in their order.
+/// The requirements of the request that the reasons name, in the reasons' order.
 pub fn named_in<N, S, A: Allocator>(
     alloc: A,
     reasons: &[Reason<N, S>],
@@ -78,7 +78,7 @@ fn write_all<I: Interner>(
     }
 }
 
-/// Appends each requirement behind a comma.
+/// Appends each requirement, with a comma before it.
 fn write_each<I: Interner>(
     interner: &I,
     requirements: &[ConditionalRequirement],
@@ -94,7 +94,7 @@ fn write_each<I: Interner>(
     Ok(())
 }
 
-/// Appends a requirement; of its condition only that it has one.
+/// Appends a requirement, and ` if ..` if it has a condition.
 fn write_named<I: Interner>(
     interner: &I,
     named: ConditionalRequirement,

@@ -1,21 +1,11 @@
 -- What follows from what a search answers.
 use Rattle.std.proofs.Common.{◌≡◌, ◌∙◌, ℕ, List, [], ◌++◌, codes, length, vec_len, ap, subst, append_assoc}
 use Rattle.std.proofs.lemmas.List.{length-map}
-use Rattle.resolvo_pool.specs.Functions.{Provider}
-use Rattle.resolvo_pool.specs.Texts.{Texts}
-use Rattle.resolvo_pool.specs.Types.ConditionalRequirement.{ConditionalRequirement}
-use Rattle.solutions.specs.Newest.{newest}
-use Rattle.solutions.specs.Wishes.{rank}
-use Rattle.solutions.specs.declared.reason.Reason.{Reason}
-use Rattle.picking.specs.Answers.{FindsNone, GivesEnough, GivesSo}
-use Rattle.picking.specs.Answers.{PicksBest, PicksNeeded, PicksNoneSpare, PicksRanked, PicksSolution}
-use Rattle.picking.specs.declared.finding.Answer.{Answer}
+use Rattle.example_answers.proofs.Words.{Answer, best_line, Choice, ConditionalRequirement, FindsNone, GivesEnough}
+use Rattle.example_answers.proofs.Words.{GivesSo, header, IsPicked, IsRefuted, lines_of, newest, PicksBest, PicksNeeded}
+use Rattle.example_answers.proofs.Words.{PicksNoneSpare, PicksRanked, PicksSolution, Provider, rank, Reason, Refutation}
+use Rattle.example_answers.proofs.Words.{SaysNoSolution, SaysSolution, text_of_reason, Texts}
 use Rattle.picking.specs.declared.finding.Answer.TheVariants as Search
-use Rattle.picking.specs.declared.finding.Choice.{Choice}
-use Rattle.picking.specs.declared.finding.Refutation.{Refutation}
-use Rattle.example_answers.specs.Answers.{IsPicked, IsRefuted, SaysNoSolution, SaysSolution}
-use Rattle.example_answers.specs.Answers.{best_line, header, lines_of}
-use Rattle.example_answers.specs.Reasons.{text_of_reason}
 
 -- three texts, each behind the one before
 pub in_turn : (a b c text-0 text-1 text-2 text-3 : List ℕ) → text-0 ≡ [] → text-1 ≡ text-0 ++ a → text-2 ≡ text-1 ++ b

@@ -2,34 +2,16 @@
 use Rattle.std.proofs.Common.{◌≡◌, ◌<◌, ◌∙◌, ℕ, List, [], ◌∷◌, ◌++◌, Result, Ok, Err, codes, length, append-nil, ap}
 use Rattle.std.proofs.Common.{arith}
 use Rattle.std.proofs.Common.{append_assoc, refl, inl, inr, subst, sym}
-use Rattle.std.specs.declared.alloc.Global.{Global}
-use Rattle.index_text.specs.Index.{IndexText}
-use Rattle.resolvo_pool.specs.Functions.{Provider}
-use Rattle.resolvo_pool.specs.Texts.{Texts}
-use Rattle.resolvo_pool.specs.Types.ConditionalRequirement.{ConditionalRequirement}
-use Rattle.corrections.specs.Proposals.{IsForbidden, named_in}
-use Rattle.report_trees.specs.Trees.{IsTreeOrReport}
-use Rattle.solutions.specs.Needed.{AreCaused}
-use Rattle.solutions.specs.Newest.{newest}
-use Rattle.solutions.specs.declared.needed.Cause.{Cause}
-use Rattle.solutions.specs.declared.reason.Reason.{Reason}
-use Rattle.picking.specs.Answers.{PicksCaused}
-use Rattle.picking.specs.declared.finding.Answer.{Answer}
-use Rattle.picking.specs.declared.finding.Answer.TheVariants as Search
-use Rattle.picking.specs.declared.finding.Choice.{Choice}
-use Rattle.example_index.specs.Listed.{AreRead, IsIndex}
-use Rattle.example_index.specs.declared.fault.IndexFault.{IndexFault}
-use Rattle.example_index.specs.declared.fault.IndexFault.TheVariants as Fault
-use Rattle.example_index.specs.declared.index.SmallIndex.{SmallIndex}
-use Rattle.example_answers.specs.Answers.{IsPicked, IsRefuted, best_line, header}
-use Rattle.example_answers.specs.Explained.{ExplainsAnswer, ExplainsIndex, ExplainsOf, ExplainsSolution}
-use Rattle.example_answers.specs.Explained.{ReportsNoSolution, lines_of_causes, text_of_conflict, text_of_pick}
-use Rattle.example_answers.specs.Faults.{IsFault, SaysFault}
-use Rattle.example_answers.specs.Names.{names_of}
-use Rattle.example_answers.specs.declared.outcome.Outcome.{Outcome}
-use Rattle.example_answers.specs.declared.outcome.Outcome.TheVariants.{Picked, NoSolution, GaveUp, Unreadable, Failed}
+use Rattle.example_answers.proofs.Words.{Answer, AreCaused, AreRead, best_line, Cause, Choice, ConditionalRequirement}
+use Rattle.example_answers.proofs.Words.{ExplainsAnswer, ExplainsIndex, ExplainsOf, ExplainsSolution, Failed, GaveUp}
+use Rattle.example_answers.proofs.Words.{Global, header, IndexFault, IndexText, IsFault, IsForbidden, IsIndex, IsPicked}
+use Rattle.example_answers.proofs.Words.{IsRefuted, IsTreeOrReport, lines_of_causes, named_in, names_of, newest}
+use Rattle.example_answers.proofs.Words.{NoSolution, Outcome, Picked, PicksCaused, Provider, Reason, ReportsNoSolution}
+use Rattle.example_answers.proofs.Words.{SaysFault, SmallIndex, text_of_conflict, text_of_pick, Texts, Unreadable}
 use Rattle.example_answers.proofs.AnswerLemmas.{in_turn}
 use Rattle.example_answers.proofs.IndexLemmas.{IsSaid, of_fault}
+use Rattle.picking.specs.declared.finding.Answer.TheVariants as Search
+use Rattle.example_index.specs.declared.fault.IndexFault.TheVariants as Fault
 
 -- a text that goes on with the lines of what is picked is whole if nothing is left
 pub whole_without_more : {S : Type 0} (text : S → Cause → List ℕ) (causes : List Cause) (others : List S)

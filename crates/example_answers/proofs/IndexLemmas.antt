@@ -1,16 +1,9 @@
 -- What answers an index.
 use Rattle.std.proofs.Common.{◌≡◌, ℕ, List, None, Some, Result, Ok, Err, ap, refl, sym, inl, inr}
-use Rattle.index_text.specs.Index.{IndexText}
-use Rattle.resolvo_pool.specs.Functions.{Provider}
-use Rattle.resolvo_pool.specs.Texts.{Texts}
-use Rattle.example_index.specs.Listed.{AreRead, IsIndex}
-use Rattle.example_index.specs.declared.fault.IndexFault.{IndexFault}
+use Rattle.example_answers.proofs.Words.{AnswersIndex, AreRead, Failed, GaveUp, IndexFault, IndexText, IsAnswer}
+use Rattle.example_answers.proofs.Words.{IsAnswerOf, IsFault, IsIndex, NoSolution, Outcome, Picked, Provider, SaysFault}
+use Rattle.example_answers.proofs.Words.{SmallIndex, Texts, Unreadable, unreadable_in}
 use Rattle.example_index.specs.declared.fault.IndexFault.TheVariants as Fault
-use Rattle.example_index.specs.declared.index.SmallIndex.{SmallIndex}
-use Rattle.example_answers.specs.Answers.{AnswersIndex, IsAnswer, IsAnswerOf}
-use Rattle.example_answers.specs.Faults.{IsFault, SaysFault, unreadable_in}
-use Rattle.example_answers.specs.declared.outcome.Outcome.{Outcome}
-use Rattle.example_answers.specs.declared.outcome.Outcome.TheVariants.{Picked, NoSolution, GaveUp, Unreadable, Failed}
 
 -- an index is what is said
 abbrev pub IsSaid : IndexText → SmallIndex → Type 0

@@ -4,3 +4,4 @@ pub mod IndexLemmas
 pub mod NameLemmas
 pub mod PrintLemmas
 pub mod ShownLemmas
+pub mod Words

@@ -1,24 +1,16 @@
 -- What is printed, answer by answer.
 use Rattle.std.proofs.Common.{◌≡◌, ◌∙◌, ℕ, ◌+◌, ◌<◌, Bool, true, false, List, [], ◌∷◌, ◌++◌, Option, Result, Ok}
 use Rattle.std.proofs.Common.{Err, OnErr, max, map}
-use Rattle.std.specs.Prelude.{IsErrAnd}
 use Rattle.std.proofs.Common.{◌≤◌, length, take, refl, sym, ap, subst, append_assoc, append-nil, get_or}
 use Rattle.std.proofs.KnownBytes.{Appends-kept, Appends-nil, Appends-trans}
 use Rattle.std.proofs.lemmas.List.{flat_map_more, map_more, map-append, take-map, take_all}
 use Rattle.std.proofs.lemmas.List.Sums.{fold-append}
 use Rattle.std.proofs.Math.Seq.{take-length}
-use Rattle.std.specs.Io.KnownBytes.{Appends, Keeps}
-use Rattle.std.specs.List.{AllZip, fold}
-use Rattle.index_text.specs.Indexes.{NumberedWords}
-use Rattle.script_text.specs.Devices.{GoesWell, WritingEnds}
-use Rattle.script_text.specs.Output.{TakesSome}
 use Rattle.script_text.proofs.Calls.{GivesUp-after, GoesWell-trans}
-use Rattle.example_answers.specs.Status.{status_of}
-use Rattle.example_answers.specs.Printed.{Answered, AreAnswers, AreFirstAnswers, Prints, PrintingEnds, empty_line, gap}
-use Rattle.example_answers.specs.Printed.{is_first_after, printed, worst_status}
-use Rattle.example_answers.specs.declared.outcome.Outcome.{Outcome}
-use Rattle.example_answers.specs.declared.outcome.Outcome.TheVariants.{Picked}
-use Rattle.example_answers.specs.declared.print_fault.PrintFault.{PrintFault}
+use Rattle.example_answers.proofs.Words.{AllZip, Answered, Appends, AreAnswers, AreFirstAnswers, empty_line, fold, gap}
+use Rattle.example_answers.proofs.Words.{GoesWell, is_first_after, IsErrAnd, Keeps, NumberedWords, Outcome, Picked}
+use Rattle.example_answers.proofs.Words.{printed, PrintFault, PrintingEnds, Prints, status_of, TakesSome, worst_status}
+use Rattle.example_answers.proofs.Words.{WritingEnds}
 
 module _ {A B : Type 0} (R : A → B → Type 0) where
   -- two more items

@@ -1,16 +1,7 @@
 -- What follows from what a search answers, for a graph.
 use Rattle.std.proofs.Common.{◌≡◌, ℕ, List, Result, Ok, Err, refl, subst}
-use Rattle.std.specs.declared.alloc.Global.{Global}
-use Rattle.index_text.specs.Index.{IndexText}
-use Rattle.reports.specs.Graphs.{IsGraph}
-use Rattle.resolvo_pool.specs.Functions.{Provider}
-use Rattle.resolvo_pool.specs.Texts.{Texts}
-use Rattle.resolvo_pool.specs.Types.ConditionalRequirement.{ConditionalRequirement}
-use Rattle.solutions.specs.declared.reason.Reason.{Reason}
-use Rattle.example_index.specs.Listed.{AreRead}
-use Rattle.example_index.specs.declared.index.SmallIndex.{SmallIndex}
-use Rattle.example_answers.specs.Answers.{IsRefuted, OfIndex}
-use Rattle.example_answers.specs.Shown.{ShowsNoSolution}
+use Rattle.example_answers.proofs.Words.{AreRead, ConditionalRequirement, Global, IndexText, IsGraph, IsRefuted}
+use Rattle.example_answers.proofs.Words.{OfIndex, Provider, Reason, ShowsNoSolution, SmallIndex, Texts}
 use Rattle.example_answers.proofs.IndexLemmas.{IsSaid}
 
 -- a graph of the reasons shows that there is no solution

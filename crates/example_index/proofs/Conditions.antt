@@ -1,15 +1,8 @@
 -- What conditions say that are made of others.
 use Rattle.std.proofs.Common.{◌≡◌, ℕ, List, [], ◌∷◌, ◌++◌, Some}
-use Rattle.std.specs.Prelude.{slice_get}
-use Rattle.std.specs.List.{AllZip}
-use Rattle.index_text.specs.Sets.{SetText}
-use Rattle.resolvo_ids.specs.Types.VersionSetId.{VersionSetId}
-use Rattle.resolvo_pool.specs.Conditions.{Leaf, Both, Either, crossed, normal_form}
-use Rattle.resolvo_pool.specs.Pool.{Lists}
-use Rattle.resolvo_pool.specs.Types.Condition.TheVariants.{Binary, Requirement}
-use Rattle.resolvo_pool.specs.Types.LogicalOperator.TheVariants.{And, Or}
-use Rattle.example_index.specs.Meaning.{IsSet, IsCondition, leaf, binary}
-use Rattle.example_index.specs.declared.range.VersionRange.{VersionRange}
+use Rattle.resolvo_pool.specs.Types.Condition.TheVariants.{Requirement}
+use Rattle.example_index.proofs.Words.{AllZip, And, Binary, binary, Both, crossed, Either, IsCondition, IsSet, Leaf}
+use Rattle.example_index.proofs.Words.{leaf, Lists, normal_form, Or, SetText, slice_get, VersionRange, VersionSetId}
 use Rattle.example_index.proofs.Later.{zip_push}
 
 pub zip_append : {A B : Type 0} (P : A → B → Type 0) (xs : List A) (ys : List B) (zs : List A) (ws : List B)

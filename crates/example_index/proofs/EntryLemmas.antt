@@ -1,17 +1,9 @@
 -- What entries need and limit, one after the other.
 use Rattle.std.proofs.Common.{◌≡◌, ℕ, List, [], ◌∷◌, ◌++◌, Option, None, Some, refl, ap, sym, subst}
-use Rattle.std.specs.List.{AllZip}
-use Rattle.index_text.specs.Entries.{EntryText, Needs, Limits, Favored, Locked}
-use Rattle.index_text.specs.Lines.{VersionIs, Offered, Excluded, Unknown}
-use Rattle.resolvo_ids.specs.Types.StringId.{StringId}
-use Rattle.resolvo_ids.specs.Types.VersionSetId.{VersionSetId}
-use Rattle.resolvo_pool.specs.Dependencies.{needs_of}
-use Rattle.resolvo_pool.specs.Pool.{Lists, IsLater}
-use Rattle.resolvo_pool.specs.Types.ConditionalRequirement.{ConditionalRequirement}
-use Rattle.example_index.specs.Meaning.{IsNeed, IsSet, needs_in, limits_in}
-use Rattle.example_index.specs.Package.{IsState, IsReason}
-use Rattle.example_index.specs.declared.packages.Entries.{Entries}
-use Rattle.example_index.specs.declared.range.VersionRange.{VersionRange}
+use Rattle.index_text.specs.Entries.{Needs}
+use Rattle.example_index.proofs.Words.{AllZip, ConditionalRequirement, Entries, EntryText, Excluded, Favored, IsLater}
+use Rattle.example_index.proofs.Words.{IsNeed, IsReason, IsSet, IsState, Limits, limits_in, Lists, Locked, needs_in}
+use Rattle.example_index.proofs.Words.{needs_of, Offered, StringId, Unknown, VersionIs, VersionRange, VersionSetId}
 use Rattle.example_index.proofs.Conditions.{zip_append}
 use Rattle.example_index.proofs.Later.{needs_still, sets_still, are_needs_still, still_at}
 

@@ -1,19 +1,12 @@
 -- Whether a version is there already.
 use Rattle.std.proofs.Common.{◌≡◌, ◌∙◌, ℕ, suc, Bool, true, false, ◌&&◌, ◌||◌, List, [], ◌∷◌, ◌++◌, map}
 use Rattle.std.proofs.Common.{Option, None, Some, arith, refl, ap, ap₂, sym, subst}
-use Rattle.std.specs.Prelude.{◌==◌, slice_get, option_map, if◌then◌else◌}
-use Rattle.std.specs.List.{AllZip, list_any}
-use Rattle.std.specs.Str.{bytes_eq}
+use Rattle.std.specs.Prelude.{◌==◌, if◌then◌else◌}
 use Rattle.std.proofs.lemmas.Bool.Decides.{nat_tests}
 use Rattle.std.proofs.lemmas.Slice.Eq.{bytes_eq-Decides}
-use Rattle.index_text.specs.Index.{is_same_version, with_version}
-use Rattle.index_text.specs.Lines.{VersionText}
-use Rattle.resolvo_pool.specs.Pool.{Lists, IsLater}
-use Rattle.resolvo_pool.specs.Types.Solvable.{Solvable}
-use Rattle.example_index.specs.Listed.{IsVersion}
-use Rattle.example_index.specs.Reading.{IsAdded, numbered}
-use Rattle.example_index.specs.Meaning.{IsNamed, first_place}
-use Rattle.example_index.specs.declared.range.VersionRange.{VersionRange}
+use Rattle.example_index.proofs.Words.{AllZip, bytes_eq, first_place, is_same_version, IsAdded, IsLater, IsNamed}
+use Rattle.example_index.proofs.Words.{IsVersion, list_any, Lists, numbered, option_map, slice_get, Solvable}
+use Rattle.example_index.proofs.Words.{VersionRange, VersionText, with_version}
 use Rattle.example_index.proofs.Kept.{same_numbers}
 use Rattle.example_index.proofs.Later.{version_still, zip_weaker}
 

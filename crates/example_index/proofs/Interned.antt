@@ -2,22 +2,15 @@
 use Rattle.std.proofs.Common.{◌≡◌, ◌∙◌, ℕ, suc, ◌+◌, Bool, true, false, not, ◌||◌, List, [], ◌∷◌, ◌++◌, map, Some}
 use Rattle.std.proofs.Common.{None, length}
 use Rattle.std.proofs.Common.{cond, arith, refl, ap, sym, add_comm, add-one}
-use Rattle.std.specs.Prelude.{nat_lt, option_map, if◌then◌else◌, slice_get, ◌==◌, ◌&&◌, Result, Ok, Err, IfOk, OnOk}
-use Rattle.std.specs.List.{position, position_or_len}
-use Rattle.std.specs.Str.{bytes_eq}
-use Rattle.std.specs.String.{string_bytes, string_eq}
-use Rattle.std.specs.declared.string.String.{String}
+use Rattle.std.specs.Prelude.{if◌then◌else◌, ◌==◌, ◌&&◌}
 use Rattle.std.proofs.lemmas.Slice.Eq.{bytes_eq-Decides}
 use Rattle.std.proofs.lemmas.Bool.{lt-ltb}
 use Rattle.std.proofs.lemmas.Bool.Decides.{nat_tests}
-use Rattle.resolvo_pool.specs.Interned.{has_same, interned, interned_place}
-use Rattle.resolvo_pool.specs.Pool.{same_set, same_condition, same_operator}
-use Rattle.resolvo_pool.specs.Types.Condition.{Condition}
-use Rattle.resolvo_pool.specs.Types.Condition.TheVariants.{Binary, Requirement}
-use Rattle.resolvo_pool.specs.Types.LogicalOperator.{LogicalOperator}
-use Rattle.resolvo_pool.specs.Types.LogicalOperator.TheVariants.{And, Or}
-use Rattle.example_index.specs.Meaning.{first_place}
-use Rattle.example_index.specs.declared.range.VersionRange.{VersionRange}
+use Rattle.resolvo_pool.specs.Types.Condition.TheVariants.{Requirement}
+use Rattle.example_index.proofs.Words.{And, Binary, bytes_eq, Condition, Err, first_place, has_same, IfOk, interned}
+use Rattle.example_index.proofs.Words.{interned_place, LogicalOperator, nat_lt, Ok, OnOk, option_map, Or, position}
+use Rattle.example_index.proofs.Words.{position_or_len, Result, same_condition, same_operator, same_set, slice_get}
+use Rattle.example_index.proofs.Words.{String, string_bytes, string_eq, VersionRange}
 
 -- at its place an interned value stands, as it is seen, where equal values are seen as one
 module _ {X Y : Type 0} (view : X → Y) (same : X → X → Bool) (x : X)

@@ -1,25 +1,16 @@
 -- What is kept of lines, with one line more.
 use Rattle.std.proofs.Common.{◌≡◌, ◌∙◌, ℕ, suc, ◌<◌, Bool, true, false, ◌&&◌, List, [], ◌∷◌, ◌++◌, length, Option}
 use Rattle.std.proofs.Common.{None, Some, arith, refl, ap, sym, subst}
-use Rattle.std.specs.Prelude.{◌==◌, slice_get, if◌then◌else◌, unwrap_or, option_map}
-use Rattle.std.specs.List.{AllZip}
+use Rattle.std.specs.Prelude.{◌==◌, if◌then◌else◌}
 use Rattle.std.proofs.lemmas.Bool.Decides.{nat_tests}
-use Rattle.index_text.specs.Lines.{VersionText, VersionIs, Offered, Excluded, Unknown}
-use Rattle.resolvo_ids.specs.Types.StringId.{StringId}
 use Rattle.resolvo_pool.specs.Dependencies.{Needs}
-use Rattle.resolvo_pool.specs.Pool.{Lists, IsLater}
-use Rattle.resolvo_pool.specs.PoolIds.{solvable_name_in}
-use Rattle.resolvo_pool.specs.Types.Solvable.{Solvable}
-use Rattle.example_index.specs.Index.{versions_of, favored_of, locked_of, excluded_of}
-use Rattle.example_index.specs.Listed.{IsKept, IsVersion, IsExcluded, places_where, last_where, is_of_package}
-use Rattle.example_index.specs.Listed.{is_state, state_at}
-use Rattle.example_index.specs.Listed.{is_favored, is_locked, is_excluded}
-use Rattle.example_index.specs.Meaning.{AreNeeds}
-use Rattle.example_index.specs.Mark.{marked, with_reason}
-use Rattle.example_index.specs.Package.{IsReason, IsWith, IsSame, IsState}
-use Rattle.example_index.specs.declared.packages.Entries.{Entries}
-use Rattle.example_index.specs.declared.packages.Package.{Package}
-use Rattle.example_index.specs.declared.range.VersionRange.{VersionRange}
+use Rattle.example_index.proofs.Words.{AllZip, AreNeeds, Entries, Excluded, excluded_of, favored_of, is_excluded}
+use Rattle.example_index.proofs.Words.{is_favored, is_locked, is_of_package, is_state, IsExcluded, IsKept, IsLater}
+use Rattle.example_index.proofs.Words.{IsReason, IsSame, IsState, IsVersion, IsWith, last_where, Lists, locked_of}
+use Rattle.example_index.proofs.Words.{marked, Offered, option_map, Package, places_where, slice_get, Solvable}
+use Rattle.example_index.proofs.Words.{solvable_name_in, state_at, StringId, Unknown, unwrap_or, VersionIs}
+use Rattle.example_index.proofs.Words.{VersionRange, VersionText, with_reason}
+use Rattle.example_index.specs.Index.{versions_of}
 use Rattle.example_index.proofs.Later.{zip_weaker, zip_push, version_still, are_needs_still, at_end, still_at}
 use Rattle.example_index.proofs.Places.{places_same, last_same, get_before}
 

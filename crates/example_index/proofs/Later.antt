@@ -1,29 +1,18 @@
 -- What ids stand for in a pool they stand for in it later on.
 use Rattle.std.proofs.Common.{◌≡◌, ◌∙◌, ℕ, zero, suc, List, [], ◌∷◌, ◌++◌, ◌+◌, ◌<◌, length, take, map, Bool, true}
 use Rattle.std.proofs.Common.{false, Option, None, Some, arith, refl, ap, sym, subst}
-use Rattle.std.specs.Prelude.{slice_get, slice_index_or, All, option_map, if◌then◌else◌}
-use Rattle.std.specs.Str.{bytes_eq}
-use Rattle.std.specs.List.{AllZip}
-use Rattle.std.specs.String.{string_bytes}
-use Rattle.std.specs.declared.string.String.{String}
+use Rattle.std.specs.Prelude.{if◌then◌else◌}
 use Rattle.std.proofs.lemmas.List.{append_assoc, append-nil, map-append, take_more}
 use Rattle.std.proofs.lemmas.List.Elements.{All-cons, All-nil}
 use Rattle.std.proofs.lemmas.Option.{slice_get_within}
-use Rattle.index_text.specs.Entries.{NeedText}
-use Rattle.index_text.specs.Lines.{VersionText, VersionIs, Offered, Excluded, Unknown}
-use Rattle.index_text.specs.Sets.{SetText}
-use Rattle.resolvo_ids.specs.Types.VersionSetId.{VersionSetId}
-use Rattle.resolvo_pool.specs.Conditions.{Formula}
-use Rattle.resolvo_pool.specs.Dependencies.{Needs, Known, Unknown as Untold}
-use Rattle.resolvo_pool.specs.Pool.{Lists, IsExtended, IsLater, with_solvable}
-use Rattle.resolvo_pool.specs.Types.ConditionalRequirement.{ConditionalRequirement}
+use Rattle.resolvo_pool.specs.Dependencies.{Needs, Unknown as Untold}
 use Rattle.resolvo_pool.specs.Types.Requirement.{Requirement}
-use Rattle.resolvo_pool.specs.Types.Requirement.TheVariants.{Single, Union}
-use Rattle.resolvo_pool.specs.Types.Solvable.{Solvable}
-use Rattle.example_index.specs.Listed.{with_bytes, IsVersion}
-use Rattle.example_index.specs.Meaning.{IsNamed, first_place, IsSet, IsUnion, Says, leaf, binary, IsCondition}
-use Rattle.example_index.specs.Meaning.{IsConditionOr, IsNeed, AreNeeds}
-use Rattle.example_index.specs.declared.range.VersionRange.{VersionRange}
+use Rattle.example_index.proofs.Words.{All, AllZip, AreNeeds, binary, bytes_eq, ConditionalRequirement, Excluded}
+use Rattle.example_index.proofs.Words.{first_place, Formula, IsCondition, IsConditionOr, IsExtended, IsLater, IsNamed}
+use Rattle.example_index.proofs.Words.{IsNeed, IsSet, IsUnion, IsVersion, Known, leaf, Lists, NeedText, Offered}
+use Rattle.example_index.proofs.Words.{option_map, Says, SetText, Single, slice_get, slice_index_or, Solvable, String}
+use Rattle.example_index.proofs.Words.{string_bytes, Union, Unknown, VersionIs, VersionRange, VersionSetId, VersionText}
+use Rattle.example_index.proofs.Words.{with_bytes, with_solvable}
 
 -- ---- lists
 pub extended_itself : {X : Type 0} (xs : List X) → IsExtended xs xs

@@ -8,3 +8,4 @@ pub mod LineLemmas
 pub mod NoteLemmas
 pub mod Places
 pub mod UnionLemmas
+pub mod Words

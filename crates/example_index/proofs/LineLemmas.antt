@@ -1,25 +1,13 @@
 -- Lines that were read, one after the other.
 use Rattle.std.proofs.Common.{◌≡◌, ◌∙◌, ℕ, ◌+◌, ◌-◌, ◌<◌, List, [], ◌∷◌, length, map, take, drop, arith, Option, None}
 use Rattle.std.proofs.Common.{Some, refl, ap, sym, subst}
-use Rattle.std.specs.Prelude.{Result, Ok, Err, ⊤, option_and_then, slice_index_or}
 use Rattle.std.proofs.lemmas.List.{at_drop_more, take_all}
-use Rattle.index_text.specs.Index.{IndexText, versions_of, with_request, with_version, or_fault}
-use Rattle.index_text.specs.Indexes.{NumberedWords}
-use Rattle.index_text.specs.Lines.{VersionText, version_said}
-use Rattle.index_text.specs.Formats.{VersionFormat}
-use Rattle.index_text.specs.PlainLines.{plain_line}
-use Rattle.index_text.specs.declared.line.Line.{Line}
-use Rattle.std.specs.List.{AllZip}
-use Rattle.std.specs.declared.string.String.{String}
-use Rattle.index_text.specs.Entries.{EntryText}
-use Rattle.resolvo_pool.specs.Pool.{Lists, nothing}
-use Rattle.example_index.specs.Listed.{IsKept, AreRead, with_bytes}
-use Rattle.example_index.specs.Reading.{IsLineAdded, IsRequestAdded}
-use Rattle.example_index.specs.Meaning.{IsNeed, needs_in}
-use Rattle.example_index.specs.declared.index.SmallIndex.{SmallIndex}
-use Rattle.example_index.specs.declared.range.VersionRange.{VersionRange}
-use Rattle.example_index.specs.declared.fault.IndexFault.{IndexFault}
-use Rattle.example_index.specs.declared.fault.IndexFault.TheVariants.{Unreadable, Refused}
+use Rattle.index_text.specs.Index.{versions_of}
+use Rattle.example_index.proofs.Words.{AllZip, AreRead, EntryText, Err, IndexFault, IndexText, IsKept, IsLineAdded}
+use Rattle.example_index.proofs.Words.{IsNeed, IsRequestAdded, Line, Lists, needs_in, nothing, NumberedWords, Ok}
+use Rattle.example_index.proofs.Words.{option_and_then, or_fault, plain_line, Refused, Result, slice_index_or}
+use Rattle.example_index.proofs.Words.{SmallIndex, String, Unreadable, version_said, VersionFormat, VersionRange}
+use Rattle.example_index.proofs.Words.{VersionText, with_bytes, with_request, with_version, ⊤}
 
 module _ (format : VersionFormat) (K : List VersionText → Type 0) (number : ℕ) (rest : List NumberedWords)
     (all : Result (List VersionText) ℕ) where

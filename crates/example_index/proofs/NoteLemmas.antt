@@ -3,13 +3,8 @@ use Rattle.std.proofs.Common.{◌≡◌, ◌∙◌, ℕ, suc, ◌+◌, Bool, tru
 use Rattle.std.proofs.Common.{append_assoc, append-nil, if◌then◌else◌, ◌-◌, ◌<◌, ◌≤◌, drop, get_or, length}
 use Rattle.std.proofs.lemmas.Bool.{eq-eqb, ne_eqb}
 use Rattle.std.proofs.lemmas.List.{at_drop_all, drop_more, length-drop, map-append}
-use Rattle.std.specs.String.{string_bytes}
-use Rattle.std.specs.declared.string.String.{String}
-use Rattle.resolvo_ids.specs.Types.VersionSetId.{VersionSetId}
-use Rattle.resolvo_pool.specs.Texts.{IsAppended, IsContinued}
-use Rattle.example_index.specs.Listed.{places_where}
-use Rattle.example_index.specs.Notes.{is_noted, more_text, note_text, notes_from, package_of}
-use Rattle.example_index.specs.declared.index.SmallIndex.{SmallIndex}
+use Rattle.example_index.proofs.Words.{is_noted, IsAppended, IsContinued, more_text, note_text, notes_from, package_of}
+use Rattle.example_index.proofs.Words.{places_where, SmallIndex, String, string_bytes, VersionSetId}
 
 abbrev pub places_of : List VersionSetId → List ℕ
 places_of sets = map (λ (set : VersionSetId). set.0) sets

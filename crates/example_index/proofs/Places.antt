@@ -1,10 +1,9 @@
 -- Places of lists: which are so, and what stands at them after a change.
 use Rattle.std.proofs.Common.{◌≡◌, ◌⊎◌, inl, inr, ℕ, zero, suc, ◌<◌, Bool, false, if◌then◌else◌}
 use Rattle.std.proofs.Common.{List, [], ◌∷◌, ◌++◌, length, Option, None, Some, arith, refl, ap, ap₂, sym, subst}
-use Rattle.std.specs.Prelude.{◌==◌, slice_get}
-use Rattle.std.specs.List.{AllZip}
+use Rattle.std.specs.Prelude.{◌==◌}
 use Rattle.std.proofs.lemmas.Slice.Zip.{AllZip-long}
-use Rattle.example_index.specs.Listed.{places_where, last_where}
+use Rattle.example_index.proofs.Words.{AllZip, last_where, places_where, slice_get}
 
 -- ---- places below a number
 pub places_same : (f g : ℕ → Bool) (n : ℕ) → ((s : ℕ) → s < n → f s ≡ g s) → places_where f n ≡ places_where g n

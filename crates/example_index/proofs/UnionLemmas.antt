@@ -1,16 +1,7 @@
 -- The union of version sets that came into a pool.
 use Rattle.std.proofs.Common.{◌≡◌, ◌∙◌, ℕ, List, [], ◌∷◌, ◌++◌, length, map, Some, refl, ap, sym, subst}
-use Rattle.std.specs.Prelude.{slice_get}
-use Rattle.std.specs.List.{AllZip}
-use Rattle.std.specs.String.{string_bytes}
-use Rattle.std.specs.declared.string.String.{String}
-use Rattle.index_text.specs.Sets.{SetText}
-use Rattle.resolvo_ids.specs.Types.VersionSetId.{VersionSetId}
-use Rattle.resolvo_ids.specs.Types.VersionSetUnionId.{VersionSetUnionId}
-use Rattle.resolvo_pool.specs.Pool.{Lists, IsLater, with_union}
-use Rattle.example_index.specs.Listed.{with_bytes}
-use Rattle.example_index.specs.Meaning.{IsSet}
-use Rattle.example_index.specs.declared.range.VersionRange.{VersionRange}
+use Rattle.example_index.proofs.Words.{AllZip, IsLater, IsSet, Lists, SetText, slice_get, String, string_bytes}
+use Rattle.example_index.proofs.Words.{VersionRange, VersionSetId, VersionSetUnionId, with_bytes, with_union}
 use Rattle.example_index.proofs.Later.{at_end, extended_itself, sets_still}
 
 module _ {A : Type 0} (pool after : Lists (String A) VersionRange ℕ) where

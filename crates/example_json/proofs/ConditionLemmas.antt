@@ -1,10 +1,6 @@
 -- Conditions, spelled out to a depth.
 use Rattle.std.proofs.Common.{◌≡◌, ◌∙◌, ℕ, zero, suc, ◌-◌, ◌<◌, true, false, if◌then◌else◌, codes, refl, ap, arith}
-use Rattle.resolvo_pool.specs.Provider.{Universe}
-use Rattle.resolvo_pool.specs.Texts.{Texts}
-use Rattle.resolvo_pool.specs.Types.Condition.{Condition}
-use Rattle.serde_json.specs.Data.{null, string}
-use Rattle.example_json.specs.Values.{condition_data, parts_data}
+use Rattle.example_json.proofs.Words.{Condition, condition_data, null, parts_data, string, Texts, Universe}
 
 module _ {N S : Type 0} (universe : Universe N S) (texts : Texts N S) where
   pub too_deep : (depth condition : ℕ) → depth ≡ 0 → condition_data universe texts depth condition ≡ string (codes "..")

@@ -2,8 +2,7 @@
 use Rattle.std.proofs.Common.{◌≡◌, ◌∙◌, ℕ, ◌+◌, ◌<◌, ◌≤◌, List, [], ◌∷◌, ◌++◌, length, get_or, drop, map, refl, sym, ap}
 use Rattle.std.proofs.Common.{append_assoc, append-nil}
 use Rattle.std.proofs.lemmas.List.{drop_all, drop_more, map_push}
-use Rattle.serde_json.specs.Data.{Data, array}
-use Rattle.serde_json.specs.View.{items_of}
+use Rattle.example_json.proofs.Words.{array, Data, items_of}
 
 -- what is done and what is left make the whole: at one more, and where nothing is left
 module _ {X Y : Type 0} (f : X → Data) (g : Y → Data) (done : List X) (ys : List Y) (i : ℕ)

@@ -1,27 +1,14 @@
 -- None of the values of answers has a float, so that each has one text. N are the names, S the solvables.
 use Rattle.std.proofs.Common.{◌≡◌, ℕ, zero, suc, Bool, true, false, ◌||◌, List, [], ◌∷◌, Option, None, Some, codes}
 use Rattle.std.proofs.Common.{if◌then◌else◌, refl}
-use Rattle.index_text.specs.declared.diagnosis.Diagnosis.{Diagnosis}
-use Rattle.resolvo_pool.specs.Provider.{Universe, knows_requirement, sets_of}
-use Rattle.resolvo_pool.specs.Texts.{Texts}
-use Rattle.resolvo_pool.specs.Types.Condition.{Condition}
+use Rattle.example_json.proofs.Words.{And, Answer, answer_data, array_of, Condition, condition_data}
+use Rattle.example_json.proofs.Words.{ConditionalRequirement, Data, Diagnosis, Excluded, has_float, if_data, joined}
+use Rattle.example_json.proofs.Words.{knows_requirement, Lacks, Limits, Locked, LogicalOperator, need_data, Needs}
+use Rattle.example_json.proofs.Words.{NotASolution, null, OneVersion, Or, parent_data, parts_data, Picked, place_data}
+use Rattle.example_json.proofs.Words.{Reason, reason_data, reasons_data, Requirement, set_data, sets_data, sets_of}
+use Rattle.example_json.proofs.Words.{sets_of_data, StepsUsed, string, Texts, Uncertified, Universe, Unknown}
+use Rattle.example_json.proofs.Words.{unreadable_data, Unsolvable, version_data, versions_data}
 use Rattle.resolvo_pool.specs.Types.Condition.TheVariants as Cond
-use Rattle.resolvo_pool.specs.Types.ConditionalRequirement.{ConditionalRequirement}
-use Rattle.resolvo_pool.specs.Types.LogicalOperator.{LogicalOperator}
-use Rattle.resolvo_pool.specs.Types.LogicalOperator.TheVariants.{And, Or}
-use Rattle.resolvo_pool.specs.Types.Requirement.{Requirement}
-use Rattle.serde_json.specs.Data.{Data, null, string}
-use Rattle.serde_json.specs.Written.{has_float}
-use Rattle.solutions.specs.declared.reason.Reason.{Reason}
-use Rattle.solutions.specs.declared.reason.Reason.TheVariants.{Needs, Lacks, Limits, Unknown, Excluded}
-use Rattle.solutions.specs.declared.reason.Reason.TheVariants.{Locked, OneVersion}
-use Rattle.picking.specs.declared.finding.Answer.{Answer}
-use Rattle.picking.specs.declared.finding.Answer.TheVariants.{Picked, Unsolvable, Uncertified, StepsUsed, NotASolution}
-use Rattle.example_json.specs.Answers.{place_data}
-use Rattle.example_json.specs.Objects.{answer_data, unreadable_data}
-use Rattle.example_json.specs.Reasons.{need_data, reason_data, reasons_data}
-use Rattle.example_json.specs.Values.{array_of, condition_data, if_data, joined, parent_data, parts_data, set_data}
-use Rattle.example_json.specs.Values.{sets_data, sets_of_data, version_data, versions_data}
 
 or_plain : {a b : Bool} → a ≡ false → b ≡ false → (a || b) ≡ false
 or_plain first second = rw (first, second)

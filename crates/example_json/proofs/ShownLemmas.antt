@@ -1,24 +1,12 @@
 -- What answers an index by an object.
 use Rattle.std.proofs.Common.{◌≡◌, ◌∙◌, ℕ, List, [], ◌∷◌, Option, None, Some, Result, Ok, Err, ap, refl, sym, inl}
 use Rattle.std.proofs.Common.{inr, length, map, subst}
-use Rattle.index_text.specs.Index.{IndexText}
-use Rattle.index_text.specs.declared.line.Line.{Line}
-use Rattle.resolvo_ids.specs.Types.VersionSetId.{VersionSetId}
-use Rattle.resolvo_pool.specs.Functions.{Provider}
-use Rattle.resolvo_pool.specs.Texts.{Texts}
-use Rattle.resolvo_pool.specs.Types.ConditionalRequirement.{ConditionalRequirement}
-use Rattle.serde_json.specs.Data.{Data}
-use Rattle.std.specs.declared.alloc.Global.{Global}
-use Rattle.example_index.specs.Listed.{AreRead, places_where}
-use Rattle.example_index.specs.Notes.{is_empty_at}
-use Rattle.example_index.specs.declared.fault.IndexFault.TheVariants as Fault
-use Rattle.example_index.specs.declared.index.SmallIndex.{SmallIndex}
-use Rattle.example_answers.specs.Faults.{unreadable_in}
-use Rattle.example_answers.specs.declared.outcome.Outcome.{Outcome}
-use Rattle.example_answers.specs.declared.outcome.Outcome.TheVariants.{GaveUp, Unreadable}
 use Rattle.example_answers.proofs.IndexLemmas.{IsSaid, read_fault, refused_unreadable}
-use Rattle.example_json.specs.Answers.{IndexIsShown, ShowsAnswer, ShowsOf, ShowsRefusal, ShowsUnreadable}
-use Rattle.example_json.specs.Answers.{empty_sets, notes_data}
+use Rattle.example_json.proofs.Words.{AreRead, ConditionalRequirement, Data, empty_sets, GaveUp, Global, IndexIsShown}
+use Rattle.example_json.proofs.Words.{IndexText, is_empty_at, Line, notes_data, Outcome, places_where, Provider}
+use Rattle.example_json.proofs.Words.{ShowsAnswer, ShowsOf, ShowsRefusal, ShowsUnreadable, SmallIndex, Texts}
+use Rattle.example_json.proofs.Words.{Unreadable, unreadable_in, VersionSetId}
+use Rattle.example_index.specs.declared.fault.IndexFault.TheVariants as Fault
 
 -- ids by their places
 pub by_place : (sets : List VersionSetId)

@@ -2,29 +2,20 @@
 use Rattle.std.proofs.Common.{◌≡◌, ℕ, suc, ◌+◌, ◌*◌, ◌<◌, Bool, not, ◌||◌, ◌&&◌, eqb, List, [], ◌∷◌, ◌++◌}
 use Rattle.std.proofs.Common.{length, map, get_or, IsTrue, Some, slice_get, unwrap_or, option_map, Result, IfOk}
 use Rattle.std.proofs.Common.{refl, sym, ap, ◌∙◌, subst, arith, inl, inr}
-use Rattle.std.specs.List.{All}
 use Rattle.std.proofs.lemmas.Bool.{cases_eq, eq-eqb, ne_eqb}
 use Rattle.std.proofs.lemmas.List.{map-append, length-map}
 use Rattle.std.proofs.lemmas.List.Elements.{All-push}
 use Rattle.std.proofs.lemmas.Option.{slice_get-map}
-use Rattle.decisions.specs.Literals.{Lit, Pos, Neg}
-use Rattle.decisions.specs.LiteralIndex.{literal_index}
-use Rattle.clauses.specs.Clauses.{same_literal}
-use Rattle.clauses.specs.declared.disjunction.Disjunction.{Disjunction}
-use Rattle.clause_counters.specs.CounterState.{CounterState}
-use Rattle.clause_counters.specs.GroupedClauses.{GroupedClauses, Represents, GroupClause, has_index, with_group}
-use Rattle.clause_counters.specs.GroupedClauses.{AddsGroup, AddsClause}
-use Rattle.clause_counters.specs.GroupedClauses as below
 use Rattle.clause_counters.proofs.ShownLaws.{shows_same}
-use Rattle.falsified_clauses.specs.declared.demand.Demand.{Demand}
-use Rattle.falsified_clauses.specs.declared.group_key.GroupKey.{GroupKey}
-use Rattle.falsified_clauses.specs.declared.group_key.GroupKey.TheVariants.{Condition}
-use Rattle.falsified_clauses.specs.Clauses.{PlacedDemand, Lists, Counted, counted}
-use Rattle.falsified_clauses.specs.Clauses.{with_clause, with_false, with_undecided}
-use Rattle.falsified_clauses.specs.GroupKeys.{literals_of, IsKnown, keys_of, numbers_in, HasGroups, KeepsNumbers}
-use Rattle.falsified_clauses.specs.Counts.{KeyedCounters, Counts, IsReady, grouped_by, group_clause}
+use Rattle.falsified_clauses.proofs.Words.{AddsClause, AddsGroup, All, Condition, Counted, counted, CounterState}
+use Rattle.falsified_clauses.proofs.Words.{Counts, Demand, Disjunction, group_clause, GroupClause, grouped_by}
+use Rattle.falsified_clauses.proofs.Words.{GroupedClauses, GroupKey, has_index, HasGroups, IsKnown, IsReady}
+use Rattle.falsified_clauses.proofs.Words.{KeepsNumbers, KeyedCounters, keys_of, Lists, Lit, literal_index, literals_of}
+use Rattle.falsified_clauses.proofs.Words.{Neg, numbers_in, PlacedDemand, Pos, Represents, same_literal, with_clause}
+use Rattle.falsified_clauses.proofs.Words.{with_false, with_group, with_undecided}
 use Rattle.falsified_clauses.proofs.KeyLaws.{numbers_pushed}
 use Rattle.falsified_clauses.proofs.GroupLaws.{numbers_kept, numbers_there}
+use Rattle.clause_counters.specs.GroupedClauses as below
 
 -- ---- nothing
 

@@ -1,23 +1,15 @@
 -- A clause is falsified exactly if each of its groups is false.
 use Rattle.std.proofs.Common.{◌≡◌, ℕ, ◌<◌, Bool, true, false, ◌&&◌, List, [], ◌∷◌, length, map, Option, Some, None}
 use Rattle.std.proofs.Common.{refl, sym, ap, ◌∙◌, subst, arith}
-use Rattle.std.specs.List.{All, list_all}
 use Rattle.std.proofs.lemmas.List.{get_or-map, length-map}
 use Rattle.std.proofs.lemmas.List.Folds.{list_all-append, list_all-map}
-use Rattle.decisions.specs.Literals.{Lit, Pos, Neg}
-use Rattle.clauses.specs.Clauses.{condition_literals}
-use Rattle.clauses.specs.Stored.{stored_in}
-use Rattle.clause_counters.specs.GroupedClauses.{row_literals, grouped_clause}
-use Rattle.clause_counters.specs.GroupedClauses as below
 use Rattle.clause_counters.proofs.FirstLaws.{same_first_of}
-use Rattle.falsified_clauses.specs.declared.demand.Demand.{Demand}
-use Rattle.falsified_clauses.specs.declared.group_key.GroupKey.{GroupKey}
-use Rattle.falsified_clauses.specs.declared.group_key.GroupKey.TheVariants.{Parent, Condition, Rows}
-use Rattle.falsified_clauses.specs.Clauses.{PlacedDemand, Counted, no_clause, clause_at, rows}
-use Rattle.falsified_clauses.specs.GroupKeys.{literals_of, number_in, keys_under, HasGroups}
-use Rattle.falsified_clauses.specs.Falsified.{is_falsified_at, IsFirstFalsified}
-use Rattle.falsified_clauses.specs.Counts.{grouped_by, group_clause}
+use Rattle.falsified_clauses.proofs.Words.{All, clause_at, Condition, condition_literals, Counted, Demand, group_clause}
+use Rattle.falsified_clauses.proofs.Words.{grouped_by, grouped_clause, GroupKey, HasGroups, is_falsified_at}
+use Rattle.falsified_clauses.proofs.Words.{IsFirstFalsified, keys_under, list_all, Lit, literals_of, Neg, no_clause}
+use Rattle.falsified_clauses.proofs.Words.{number_in, Parent, PlacedDemand, Pos, row_literals, Rows, rows, stored_in}
 use Rattle.falsified_clauses.proofs.KeyLaws.{read_at}
+use Rattle.clause_counters.specs.GroupedClauses as below
 
 -- all rows are false, list by list
 rows_false : (f : Lit → Bool) (lists : List (List ℕ))

@@ -1,12 +1,9 @@
 -- The numbers of a clause's groups.
 use Rattle.std.proofs.Common.{◌≡◌, ℕ, zero, suc, ◌<◌, List, [], ◌∷◌, length, map, Option, Some, None}
 use Rattle.std.proofs.Common.{refl, sym, ap, ◌∙◌, subst, arith}
-use Rattle.std.specs.List.{All, Contains}
-use Rattle.falsified_clauses.specs.declared.demand.Demand.{Demand}
-use Rattle.falsified_clauses.specs.declared.group_key.GroupKey.{GroupKey}
-use Rattle.falsified_clauses.specs.declared.group_key.GroupKey.TheVariants.{Parent, Condition, Rows}
-use Rattle.falsified_clauses.specs.GroupKeys.{number_in, KeepsNumbers, numbers, keys_of, keys_under, numbers_in}
-use Rattle.falsified_clauses.specs.GroupKeys.{HasGroups, condition_number, HasConditionGroup, IsConditionKey}
+use Rattle.falsified_clauses.proofs.Words.{All, Condition, condition_number, Contains, Demand, GroupKey}
+use Rattle.falsified_clauses.proofs.Words.{HasConditionGroup, HasGroups, IsConditionKey, KeepsNumbers, keys_of}
+use Rattle.falsified_clauses.proofs.Words.{keys_under, number_in, numbers, numbers_in, Parent, Rows}
 
 -- ---- as keys come
 

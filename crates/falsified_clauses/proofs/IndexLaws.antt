@@ -1,13 +1,8 @@
 -- What a table says of keys when another table of it changes.
 use Rattle.std.proofs.Common.{◌≡◌, ◌≢◌, ℕ, ◌-◌, ◌^◌, List}
 use Rattle.std.proofs.Common.{Option, Some, None, refl, sym, ap, subst}
-use Rattle.typed_ids.specs.TotalMaps.{IsUpdate, SameValues}
-use Rattle.typed_ids.specs.declared.version_set_id.VersionSetId.{VersionSetId}
-use Rattle.typed_ids.specs.declared.version_set_union_id.VersionSetUnionId.{VersionSetUnionId}
-use Rattle.providers.specs.declared.requirement.Requirement.TheVariants.{Single, Union}
-use Rattle.falsified_clauses.specs.declared.group_key.GroupKey.{GroupKey}
-use Rattle.falsified_clauses.specs.declared.group_key.GroupKey.TheVariants.{Parent, Condition, Rows}
-use Rattle.falsified_clauses.specs.GroupIndex.{Tables, slot_at, SameSlots, number_of}
+use Rattle.falsified_clauses.proofs.Words.{Condition, GroupKey, IsUpdate, number_of, Parent, Rows, SameSlots}
+use Rattle.falsified_clauses.proofs.Words.{SameValues, Single, slot_at, Tables, Union, VersionSetId, VersionSetUnionId}
 
 -- the tables as one
 abbrev pub tables : List (Option ℕ) → List (Option ℕ) → List (Option ℕ) → List (Option ℕ) → Tables

@@ -5,18 +5,12 @@ use Rattle.std.proofs.Common.{refl, sym, ap, ◌∙◌, subst, arith, inl, inr, 
 use Rattle.std.proofs.lemmas.Bool.{cases_lt, cases_Bool, eq-eqb, ne_eqb, eqb-true, lt-ltb, le-ltb}
 use Rattle.std.proofs.lemmas.Option.{none-some}
 use Rattle.std.proofs.lemmas.List.{get_or-map, length-append}
-use Rattle.std.specs.List.{All, Contains}
 use Rattle.std.proofs.lemmas.List.Elements.{All-contains, All-contains_itself, All-push, All-weaker}
 use Rattle.std.proofs.lemmas.List.Folds.{position_or_len_push}
 use Rattle.std.proofs.lemmas.List.Sums.{passes_at_first, prefix_len-le-length}
-use Rattle.typed_ids.specs.TotalMaps.{IsUpdate}
-use Rattle.providers.specs.Requirement.{same_requirement}
-use Rattle.providers.specs.declared.requirement.Requirement.{Requirement}
-use Rattle.providers.specs.declared.requirement.Requirement.TheVariants.{Single, Union}
-use Rattle.falsified_clauses.specs.declared.group_key.GroupKey.{GroupKey}
-use Rattle.falsified_clauses.specs.declared.group_key.GroupKey.TheVariants.{Parent, Condition, Rows}
-use Rattle.falsified_clauses.specs.GroupKeys.{same_key, number_in, KeepsNumbers, AddsOnly}
-use Rattle.falsified_clauses.specs.GroupIndex.{FindsKeys}
+use Rattle.falsified_clauses.proofs.Words.{AddsOnly, All, Condition, Contains, FindsKeys, GroupKey, IsUpdate}
+use Rattle.falsified_clauses.proofs.Words.{KeepsNumbers, number_in, Parent, Requirement, Rows, same_key}
+use Rattle.falsified_clauses.proofs.Words.{same_requirement, Single, Union}
 
 -- ---- equal keys
 

@@ -2,23 +2,12 @@
 use Rattle.std.proofs.Common.{◌≡◌, ℕ, zero, suc, ◌<◌, Bool, true, false, cond}
 use Rattle.std.proofs.Common.{List, [], ◌∷◌, ◌++◌, length, map, Some, None, IsSome, slice_get, unwrap_or}
 use Rattle.std.proofs.Common.{option_map, refl, sym, ap, ◌∙◌, subst, arith}
-use Rattle.std.specs.List.{All}
-use Rattle.std.specs.Map.{lookup}
-use Rattle.std.specs.declared.vec.Vec.{Vec}
 use Rattle.std.proofs.lemmas.List.{length-append}
 use Rattle.std.proofs.lemmas.Option.{none-some, slice_get-map}
-use Rattle.providers.specs.Requirement.{same_requirement}
-use Rattle.providers.specs.RequirementMap.{with_entry}
-use Rattle.providers.specs.declared.requirement.Requirement.{Requirement}
-use Rattle.decisions.specs.Literals.{Lit}
-use Rattle.clauses.specs.Stored.{lists_found}
-use Rattle.clauses.specs.declared.disjunction.Disjunction.{Disjunction}
-use Rattle.clause_counters.specs.GroupedClauses.{GroupedClauses, Represents, row_literals}
-use Rattle.falsified_clauses.specs.declared.group_key.GroupKey.{GroupKey}
-use Rattle.falsified_clauses.specs.declared.group_key.GroupKey.TheVariants.{Parent, Condition, Rows}
-use Rattle.falsified_clauses.specs.Clauses.{Lists, Counted}
-use Rattle.falsified_clauses.specs.GroupKeys.{literals_of, IsKnown}
-use Rattle.falsified_clauses.specs.Counts.{KeyedCounters, Counts, group_clause}
+use Rattle.falsified_clauses.proofs.Words.{All, Condition, Counted, Counts, Disjunction, group_clause, GroupedClauses}
+use Rattle.falsified_clauses.proofs.Words.{GroupKey, IsKnown, KeyedCounters, Lists, lists_found, Lit, literals_of}
+use Rattle.falsified_clauses.proofs.Words.{lookup, Parent, Represents, Requirement, row_literals, Rows}
+use Rattle.falsified_clauses.proofs.Words.{same_requirement, Vec, with_entry}
 
 -- two functions that say the same of each element of a list
 map_same : {X Y : Type 0} (f g : X → Y) (xs : List X) → All (λ x. f x ≡ g x) xs → map f xs ≡ map g xs

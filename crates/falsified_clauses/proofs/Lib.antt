@@ -5,3 +5,4 @@ pub mod GroupLaws
 pub mod IndexLaws
 pub mod KeyLaws
 pub mod Laws
+mod Words

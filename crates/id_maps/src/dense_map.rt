@@ -9,8 +9,8 @@ use crate::id_map::IdMap;
 use std::alloc::Allocator;
 use typed_ids::{DENSE_LIMIT, DefaultValue, DenseIndex, StoreError};
 
-/// The map of dense ids: the value at index i is at place i. Indexes from 2^40 on are refused. It grows to twice its
-/// size at least, so that writing at ascending indexes takes a time linear in their number.
+/// The map of dense ids: the value at index i is at place i. Indexes from 2^40 on are refused. When it grows, its
+/// capacity at least doubles, so that writing at ascending indexes takes a time linear in their number.
 impl<K: DenseIndex, V: DefaultValue, A: Allocator + Copy> IdMap<K, V, A> for Vec<V, A> {
     ghost value_at = { λ v k. slice_index_or (kept K.limit v.items) (K.index_of k) V.default_value };
 
@@ -78,7 +78,7 @@ impl<K: DenseIndex, V: DefaultValue, A: Allocator + Copy> IdMap<K, V, A> for Vec
     }
 }
 
-/// Whether a key has this index, and dense storage this place.
+/// Whether a key has this index, and dense storage has this place.
 fn has_place<K: DenseIndex>(index: usize) -> bool
     ensures { IsTrue result ↔ (index < min K.limit (2 ^ 40)) }
 {

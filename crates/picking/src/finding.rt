@@ -98,8 +98,8 @@ pub fn pick<D: DependencyProvider>(
     pick_by_wishes(alloc, provider, &request, steps)
 }
 
-/// Searches for the solution of the request that is the best by its wishes, in no more steps than these. What is picked
-/// is a solution also if the steps end before it is the best: `best_up_to` says how far it is shown to be.
+/// Searches for the solution of the request that is the best by its wishes, in at most `steps` steps. What is picked is
+/// a solution also if the steps end before it is the best: `best_up_to` says how far it is shown to be.
 pub fn pick_by_wishes<D: DependencyProvider>(
     alloc: D::Alloc,
     provider: &D,

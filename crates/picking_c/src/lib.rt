@@ -16,7 +16,7 @@ use example_index::SmallIndex;
 use resolvo_pool::{Interner, ProviderFunctions};
 use std::alloc::Global;
 
-/// Answers the index of a text, in no more steps than these. Where memory is refused for the answer, that is empty.
+/// Answers the index of a text, in at most `steps` steps. If memory is refused for the answer, the answer is empty.
 #[unsafe(no_mangle)]
 pub extern "C" fn nivolakku_pick(
     alloc: Global,
@@ -42,7 +42,7 @@ pub extern "C" fn nivolakku_pick(
     }
 }
 
-/// How many versions an answer names, and where: those of the lines below the first one, up to one that isn't a name, a
+/// How many versions an answer names, and where: those of the lines below the first, up to a line that isn't a name, a
 /// blank and a version. They are put into the buffer in their order, as many as it has room for.
 #[unsafe(no_mangle)]
 pub extern "C" fn nivolakku_versions(answer: &[u8], versions: &mut [Version]) -> usize

@@ -1,35 +1,24 @@
 -- Adding clauses: what the list of clauses answers makes a step.
 use Rattle.std.proofs.Common.{[], ◌≡◌, ℕ, ◌<◌, ◌-◌, ◌^◌, Bool, true, false, cond, not, List, ◌∷◌, length}
 use Rattle.std.proofs.Common.{Option, None, Some, Result, Ok, Err, refl, arith, sym, ◌∙◌, ap, subst}
-use Rattle.std.specs.List.{list_all}
-use Rattle.std.specs.Option.{option_map_or}
-use Rattle.std.specs.Prelude.{IsTrue, ◌&&◌, is_some, is_none, nat_le, nat_lt, find, option_map}
-use Rattle.std.specs.Prelude.{MatchOption, IfOk, IfSome, OnOk, OnErr, IfErr, IsErrAnd}
+use Rattle.std.specs.Prelude.{◌&&◌, option_map}
 use Rattle.std.proofs.lemmas.Bool.Decides.{nat_tests}
-use Rattle.typed_ids.specs.Refusals.{IsGrowthRefusal}
-use Rattle.typed_ids.specs.declared.error.StoreError.{StoreError}
-use Rattle.typed_ids.specs.declared.error.StoreError.TheVariants.{OutOfMemory, IdSpace, UnknownId, NotLoaded}
-use Rattle.typed_ids.specs.declared.error.StoreError.TheVariants.{NegatesParent, BadWatch, BadLearnt, TooManyClauses}
-use Rattle.providers.specs.declared.requirement.Requirement.{Requirement}
-use Rattle.providers.specs.Provider.{knows_requirement}
-use Rattle.decisions.specs.Literals.{Lit}
-use Rattle.clauses.specs.Clauses.{first_watches}
-use Rattle.clauses.specs.declared.clause.Clause.{Clause}
-use Rattle.clauses.specs.declared.clause.Clause.TheVariants as Kind
-use Rattle.watch_map.specs.Watching.{is_literal_in}
-use Rattle.watch_map.specs.ClauseList.{two_or_none}
-use Rattle.resolvo_store.specs.Answers.{replied}
-use Rattle.resolvo_store.specs.Command.{Command, Disjunction, Learnt, Requires, Bump, Rewatch, Watchers, Reply}
-use Rattle.resolvo_store.specs.Command.{ClauseIs, Done, WatchersAre, Refused, IsRefused, is_saturate}
-use Rattle.resolvo_store.specs.Store.{Store, values, stored_of, clause_literals}
-use Rattle.resolvo_store.specs.Store.{watched_by, lists_of}
-use Rattle.resolvo_store.specs.Refusals.{first_refusal, are_disjunctions_out, are_clauses_out, is_learnt_out}
-use Rattle.resolvo_store.specs.Refusals.{clause_refusals, is_bad_learnt, may_rewatch, knows_clause, knows_literal}
-use Rattle.resolvo_store.specs.Refusals.{knows_variable, knows_pair, knows_disjunction, negates_parent}
-use Rattle.resolvo_store.specs.Adding.{is_direct, adding, names_known}
-use Rattle.resolvo_store.specs.Outcome.{outcome, adds_clause, with_clause, with_rewatched}
-use Rattle.resolvo_store.specs.Step.{Step, HasOutcome, IsAnswered, lacks_ids, takes_no_memory}
+use Rattle.resolvo_store.proofs.Words.{adding, adds_clause, are_clauses_out, are_disjunctions_out, BadLearnt, BadWatch}
+use Rattle.resolvo_store.proofs.Words.{Bump, Clause, clause_literals, clause_refusals, ClauseIs, Command, Done, find}
+use Rattle.resolvo_store.proofs.Words.{first_refusal, first_watches, HasOutcome, IdSpace, IfErr, IfOk, IfSome}
+use Rattle.resolvo_store.proofs.Words.{is_bad_learnt, is_direct, is_learnt_out, is_literal_in, is_none, is_saturate}
+use Rattle.resolvo_store.proofs.Words.{is_some, IsAnswered, IsErrAnd, IsGrowthRefusal, IsRefused, IsTrue, knows_clause}
+use Rattle.resolvo_store.proofs.Words.{knows_disjunction, knows_literal, knows_pair, knows_requirement, knows_variable}
+use Rattle.resolvo_store.proofs.Words.{lacks_ids, Learnt, list_all, lists_of, Lit, MatchOption, may_rewatch}
+use Rattle.resolvo_store.proofs.Words.{names_known, nat_le, nat_lt, negates_parent, NegatesParent, NotLoaded, OnErr}
+use Rattle.resolvo_store.proofs.Words.{OnOk, option_map_or, outcome, OutOfMemory, Refused, replied, Reply, Requirement}
+use Rattle.resolvo_store.proofs.Words.{Requires, Rewatch, Step, Store, stored_of, StoreError, takes_no_memory}
+use Rattle.resolvo_store.proofs.Words.{TooManyClauses, two_or_none, UnknownId, values, Watchers, WatchersAre}
+use Rattle.resolvo_store.specs.Command.{Disjunction}
+use Rattle.resolvo_store.specs.Store.{watched_by}
+use Rattle.resolvo_store.specs.Outcome.{with_clause, with_rewatched}
 use Rattle.resolvo_store.proofs.RunLemmas.{is_answered}
+use Rattle.clauses.specs.declared.clause.Clause.TheVariants as Kind
 
 -- ---- growths
 

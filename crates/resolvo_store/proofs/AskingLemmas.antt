@@ -1,29 +1,17 @@
 -- What a store's queue is asked is what the abstract store says. N are the names, S the solvables.
 use Rattle.std.proofs.Common.{◌≡◌, ℕ, Bool, true, false, cond, List, [], ◌∷◌, length, map, Option, Some, None, refl}
 use Rattle.std.proofs.Common.{sym, subst, ap, ◌∙◌}
-use Rattle.std.specs.Prelude.{All, is_some, slice_get, unwrap_or}
-use Rattle.std.specs.Map.{lookup}
-use Rattle.std.specs.declared.vec.Vec.{Vec}
+use Rattle.std.specs.Prelude.{All, slice_get}
 use Rattle.std.proofs.Math.Path.{fun_ext}
 use Rattle.std.proofs.lemmas.Bool.{eqb-true}
 use Rattle.std.proofs.lemmas.List.Elements.{All-head, All-tail}
-use Rattle.providers.specs.declared.requirement.Requirement.{Requirement}
-use Rattle.providers.specs.declared.requirement.Requirement.TheVariants.{Single, Union}
-use Rattle.providers.specs.Requirement.{same_requirement}
-use Rattle.providers.specs.Provider.{Universe, knows_requirement, sets_of}
-use Rattle.decisions.specs.Literals.{Lit, Values}
-use Rattle.decisions.specs.Trail.{Trail}
-use Rattle.clauses.specs.Clauses.{StoredLiterals, condition_literals}
-use Rattle.clauses.specs.Stored.{stored_in}
 use Rattle.clauses.specs.declared.disjunction.Disjunction.{Disjunction}
-use Rattle.solver_cache.specs.Cache.{Cache}
-use Rattle.resolvo_queue.specs.Queue.{Queue}
-use Rattle.resolvo_queue.specs.References.{References, CanWalk, references, literals_in, rows_in, score_in}
-use Rattle.resolvo_queue.specs.declared.requires_clause.RequiresClause.{RequiresClause}
-use Rattle.typed_ids.specs.declared.version_set_id.VersionSetId.{VersionSetId}
-use Rattle.resolvo_queue.specs.Rows.{Row, rows, lists_loaded, lists_or_none}
-use Rattle.resolvo_store.specs.Lists.{lists_of_loaded, stored_disjunctions, IsConsistent}
-use Rattle.resolvo_store.specs.Store.{Store}
+use Rattle.resolvo_store.proofs.Words.{Cache, CanWalk, condition_literals, is_some, IsConsistent, knows_requirement}
+use Rattle.resolvo_store.proofs.Words.{lists_loaded, lists_of_loaded, lists_or_none, Lit, literals_in, lookup, Queue}
+use Rattle.resolvo_store.proofs.Words.{References, references, Requirement, RequiresClause, Row, rows, rows_in}
+use Rattle.resolvo_store.proofs.Words.{same_requirement, score_in, sets_of, Single, Store, stored_disjunctions}
+use Rattle.resolvo_store.proofs.Words.{stored_in, StoredLiterals, Trail, Union, Universe, unwrap_or, Values, Vec}
+use Rattle.resolvo_store.proofs.Words.{VersionSetId}
 use Rattle.resolvo_store.proofs.ListLemmas.{items_of, disjunctions-kept, rows-kept}
 
 -- requirements that are the same are one

@@ -1,45 +1,32 @@
 -- Laws for those who write a search over a store: what follows from the contracts of its calls.
-pub use Rattle.resolvo_store.proofs.ForbiddingLaws.{forbids_two}
 use Rattle.std.proofs.Common.{◌≡◌, ℕ, ◌<◌, ◌≤◌, Bool, true, false, cond, not, List, [], ◌∷◌, ◌++◌, length, map}
 use Rattle.std.proofs.Common.{get_or, Option, None, Some, refl, arith, sym, ◌∙◌, ap, subst, zero, suc, inl, inr}
-use Rattle.std.specs.Prelude.{◌==◌, nat_lt, ◌&&◌, All, Contains, filter, flat_map, fold, find, is_some, is_none}
-use Rattle.std.specs.Prelude.{option_map, MatchOption}
-use Rattle.std.specs.Bool.{beq}
-use Rattle.std.specs.List.{list_any, list_all}
+use Rattle.std.specs.Prelude.{◌==◌, ◌&&◌, All, option_map}
 use Rattle.std.proofs.lemmas.Bool.{eqb-true}
 use Rattle.std.proofs.lemmas.Bool.Decides.{nat_tests}
 use Rattle.std.proofs.lemmas.List.{append-nil}
 use Rattle.std.proofs.lemmas.List.Elements.{All-nil, All-cons, All-head, All-tail, All-contains, Contains-get_or}
 use Rattle.std.proofs.lemmas.List.Elements.{Contains-push, Contains-append_left, Contains-append_right}
 use Rattle.std.proofs.lemmas.Map.Views.{Contains-from_any}
-use Rattle.typed_ids.specs.declared.error.StoreError.{StoreError}
-use Rattle.typed_ids.specs.declared.error.StoreError.TheVariants.{OutOfMemory, IdSpace, LevelOutOfRange}
-use Rattle.providers.specs.declared.requirement.Requirement.{Requirement}
-use Rattle.decisions.specs.Literals.{known_true}
-use Rattle.decisions.specs.Trail.{Entry, val, entries_until, HasLevel}
 use Rattle.decisions.proofs.TrailLemmas.{val-push}
-use Rattle.resolvo_queue.specs.declared.offer.Frontier.{Frontier}
-use Rattle.resolvo_queue.specs.declared.requires_clause.RequiresClause.{RequiresClause}
-use Rattle.resolvo_queue.specs.Rows.{has_true_row, frontier}
-use Rattle.resolvo_queue.specs.Scan.{add_parent, parents, clauses_of, scan, are_literals_false, is_open, is_falsified}
-use Rattle.resolvo_queue.specs.declared.offer.Offer.{Offer}
-use Rattle.resolvo_queue.specs.Pick.{decided}
 use Rattle.resolvo_queue.proofs.Picks.Unbeaten.{none_decided}
-use Rattle.resolvo_store.specs.Command.{Command, Load, Assign, UndoUntil, Saturate, Decide, Reply, Assigned, Already}
-use Rattle.resolvo_store.specs.Command.{Clash, Done, NoDecision, Falsified, Conflict, Refused, IsRefused, is_saturate}
-use Rattle.resolvo_store.specs.Store.{Store, values, lists_of, condition_of, rows_of, score_of}
-use Rattle.resolvo_store.specs.Refusals.{first_refusal}
-use Rattle.resolvo_store.specs.Outcome.{outcome, load, assign_reply, assigned, decision, falsified_clause, picked}
-use Rattle.resolvo_store.specs.Step.{HasOutcome, IsAnswered, Step, may_be_refused}
-use Rattle.resolvo_store.specs.Solved.{IsSolved}
-use Rattle.resolvo_store.specs.Sound.{IsSound, IsAssigned}
-use Rattle.resolvo_store.specs.Models.{IsModel, IsModelNow, true_alone, MayLeaveFalse}
-use Rattle.resolvo_store.specs.Saturating.{HasImpliedMore, HasSettled}
+use Rattle.resolvo_store.proofs.Words.{add_parent, Already, are_literals_false, Assign, assign_reply, Assigned}
+use Rattle.resolvo_store.proofs.Words.{assigned, beq, Clash, clauses_of, Command, condition_of, Conflict, Contains}
+use Rattle.resolvo_store.proofs.Words.{Decide, decided, decision, Done, entries_until, Entry, Falsified}
+use Rattle.resolvo_store.proofs.Words.{falsified_clause, filter, find, first_refusal, flat_map, fold, Frontier}
+use Rattle.resolvo_store.proofs.Words.{frontier, has_true_row, HasImpliedMore, HasLevel, HasOutcome, HasSettled}
+use Rattle.resolvo_store.proofs.Words.{IdSpace, is_falsified, is_none, is_open, is_saturate, is_some, IsAnswered}
+use Rattle.resolvo_store.proofs.Words.{IsAssigned, IsModel, IsModelNow, IsRefused, IsSolved, IsSound, known_true}
+use Rattle.resolvo_store.proofs.Words.{LevelOutOfRange, list_all, list_any, lists_of, Load, load, MatchOption}
+use Rattle.resolvo_store.proofs.Words.{may_be_refused, MayLeaveFalse, nat_lt, NoDecision, Offer, outcome, OutOfMemory}
+use Rattle.resolvo_store.proofs.Words.{parents, picked, Refused, Reply, Requirement, RequiresClause, rows_of, Saturate}
+use Rattle.resolvo_store.proofs.Words.{scan, score_of, Step, Store, StoreError, true_alone, UndoUntil, val, values}
 use Rattle.resolvo_store.proofs.ModelLaws.{models_kept, conflict_rules_out}
 use Rattle.resolvo_store.proofs.RunLemmas.{has_outcome}
 use Rattle.resolvo_store.proofs.SaturatedLaws.{saturated_so_far, saturate_answered}
 use Rattle.resolvo_store.proofs.SettledLaws.{settled_unfalsified}
 use Rattle.resolvo_store.proofs.TrailModelLaws.{trail_is_model}
+pub use Rattle.resolvo_store.proofs.ForbiddingLaws.{forbids_two}
 
 -- the abstract store of which a clause says that it is sound: so a proof file names the store that the clause speaks of
 abbrev pub store_in : {N S : Type 0} {st : Store N S} → IsSound st → Store N S

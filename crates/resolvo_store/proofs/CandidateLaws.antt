@@ -1,29 +1,20 @@
 -- The lists of each loaded requirement are its candidates' variables, in whatever store commands make.
 use Rattle.std.proofs.Common.{◌≡◌, ℕ, ◌+◌, Bool, true, false, cond, List, [], ◌∷◌, ◌++◌, length, map, Option, None}
 use Rattle.std.proofs.Common.{Some, IsSome, refl, sym, ◌∙◌, ap, subst, inl, inr}
-use Rattle.std.specs.Prelude.{All, is_some, drop, slice_get, unwrap_or, nat_eq}
-use Rattle.std.specs.List.{position_from}
-use Rattle.std.specs.Map.{lookup}
+use Rattle.std.specs.Prelude.{All, drop, slice_get, nat_eq}
 use Rattle.std.proofs.lemmas.List.Elements.{All-nil, All-cons, All-head, All-tail, All-push, All-weaker}
-use Rattle.typed_ids.specs.declared.version_set_id.VersionSetId.{VersionSetId}
-use Rattle.providers.specs.declared.requirement.Requirement.{Requirement}
-use Rattle.providers.specs.Provider.{sets_of}
-use Rattle.providers.specs.Requirement.{same_requirement}
-use Rattle.variables.specs.declared.variable_origin.VariableOrigin.{VariableOrigin}
-use Rattle.variables.specs.Variables.{is_solvable, variable_of_solvable, interned_variable, with_variable}
-use Rattle.variables.specs.Variables.{with_variables}
+use Rattle.variables.specs.Variables.{with_variable}
 use Rattle.variables.proofs.InterningLemmas.{kept-all, variable-with_variable}
-use Rattle.decisions.specs.Trail.{Entry}
-use Rattle.at_most_once.specs.AtMostOne.{BitClause, is_tracked}
 use Rattle.solver_cache.proofs.CacheLemmas.{requirements_same}
-use Rattle.resolvo_store.specs.Command.{Command, Load, Saturate, AtMostOnce, Unpropagated, Reply, LoadedAs, TrackedAs}
-use Rattle.resolvo_store.specs.Command.{IsRefused, is_saturate}
-use Rattle.resolvo_store.specs.Store.{Store, Provider, new_store, lists_of, candidates_of, all_candidates}
-use Rattle.resolvo_store.specs.Tracking.{forbidding}
-use Rattle.resolvo_store.specs.Outcome.{Outcome, outcome, load, variables_loaded, hands_next, adds_clause, tracking}
-use Rattle.resolvo_store.specs.Outcome.{with_bits, with_tracked}
-use Rattle.resolvo_store.specs.Step.{Step, Run}
-use Rattle.resolvo_store.specs.Growth.{OnlyGrows, IsOfCandidates, AreCandidates, candidate_variables}
+use Rattle.resolvo_store.proofs.Words.{adds_clause, all_candidates, AreCandidates, AtMostOnce, BitClause}
+use Rattle.resolvo_store.proofs.Words.{candidate_variables, candidates_of, Command, Entry, forbidding, hands_next}
+use Rattle.resolvo_store.proofs.Words.{interned_variable, is_saturate, is_solvable, is_some, is_tracked, IsOfCandidates}
+use Rattle.resolvo_store.proofs.Words.{IsRefused, lists_of, Load, load, LoadedAs, lookup, new_store, OnlyGrows, Outcome}
+use Rattle.resolvo_store.proofs.Words.{outcome, position_from, Reply, Requirement, Run, same_requirement, Saturate}
+use Rattle.resolvo_store.proofs.Words.{sets_of, Step, Store, TrackedAs, tracking, Unpropagated, unwrap_or}
+use Rattle.resolvo_store.proofs.Words.{variable_of_solvable, VariableOrigin, variables_loaded, VersionSetId, with_bits}
+use Rattle.resolvo_store.proofs.Words.{with_tracked, with_variables}
+use Rattle.resolvo_store.specs.Store.{Provider}
 use Rattle.resolvo_store.proofs.CallerLaws.{answered_by_outcome}
 use Rattle.resolvo_store.proofs.KeepingLaws.{begun, keeps_load, OnlyGrows-outcome, OnlyGrows-step}
 use Rattle.resolvo_store.proofs.KnownLemmas.{IsLawful}

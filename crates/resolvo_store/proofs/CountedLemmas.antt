@@ -2,32 +2,24 @@
 use Rattle.std.proofs.Common.{◌≡◌, ℕ, zero, suc, ◌+◌, ◌-◌, ◌<◌, ◌≤◌, Bool, true, false, not, ◌&&◌, ◌||◌, cond, eqb}
 use Rattle.std.proofs.Common.{List, [], ◌∷◌, ◌++◌, length, get_or, map, take, Option, Some, None, option_map, Result}
 use Rattle.std.proofs.Common.{Ok, Err, refl, sym, ap, ◌∙◌, subst, arith, le_refl}
-use Rattle.std.specs.Prelude.{slice_get, nat_lt, OnOk, OnErr}
-use Rattle.std.specs.List.{All, list_all}
-use Rattle.std.specs.declared.vec.Vec.{Vec}
-use Rattle.providers.specs.declared.requirement.Requirement.{Requirement}
+use Rattle.std.specs.Prelude.{slice_get}
+use Rattle.std.specs.List.{All}
 use Rattle.std.proofs.lemmas.Option.{slice_get-map, slice_get-get_or}
 use Rattle.std.proofs.lemmas.List.{length-take, take-take, take_all, take_more}
+use Rattle.std.proofs.lemmas.List.{length-append, length-map, map_push, take-append-le}
 use Rattle.std.proofs.Math.Path.{fun_ext}
 use Rattle.std.proofs.lemmas.Bool.{eqb-true, eq-eqb, le-ltb}
-use Rattle.std.proofs.lemmas.List.{length-append, length-map, map_push, take-append-le}
-use Rattle.decisions.specs.Literals.{Lit, Pos, Neg, known_false}
-use Rattle.decisions.specs.Trail.{Entry, Trail, val, level_of, entries_until, IsOnce, AddsEntry}
-use Rattle.decisions.specs.declared.decision.Decision.{Decision}
-use Rattle.decisions.specs.declared.decision_tracker.AddFault.{AddFault}
 use Rattle.decisions.proofs.TrailLemmas.{val-push}
-use Rattle.clauses.specs.Clauses.{same_literal}
 use Rattle.clauses.specs.declared.disjunction.Disjunction.{Disjunction}
-use Rattle.falsified_clauses.specs.Clauses.{Counted, Lists, PlacedDemand, counted, with_false, with_undecided}
-use Rattle.falsified_clauses.specs.Counts.{Counts, KeyedCounters}
 use Rattle.falsified_clauses.proofs.Laws.{counts_disjunctions}
 use Rattle.resolvo_queue.specs.Scan.First.{first_of}
-use Rattle.resolvo_queue.specs.declared.requires_clause.RequiresClause.{RequiresClause}
-use Rattle.resolvo_queue.specs.declared.tracked_clause.Position.{Position}
 use Rattle.resolvo_queue.proofs.Falsified.Least.{next_position, position_stays}
-use Rattle.resolvo_store.specs.Lists.{IsOneMore}
-use Rattle.resolvo_store.specs.Counted.{AreCounted, Counting, Follows, no_false, false_literal, false_by, demand_of}
-use Rattle.resolvo_store.specs.Counted.{placed, placed_in}
+use Rattle.resolvo_store.proofs.Words.{AddFault, AddsEntry, AreCounted, Counted, counted, Counting, Counts, Decision}
+use Rattle.resolvo_store.proofs.Words.{demand_of, entries_until, Entry, false_by, false_literal, Follows, IsOnce}
+use Rattle.resolvo_store.proofs.Words.{IsOneMore, KeyedCounters, known_false, level_of, list_all, Lists, Lit, nat_lt}
+use Rattle.resolvo_store.proofs.Words.{Neg, no_false, OnErr, OnOk, placed, placed_in, PlacedDemand, Pos, Position}
+use Rattle.resolvo_store.proofs.Words.{Requirement, RequiresClause, same_literal, Trail, val, Vec, with_false}
+use Rattle.resolvo_store.proofs.Words.{with_undecided}
 
 -- ---- one entry more, or less
 

@@ -2,34 +2,22 @@
 use Rattle.std.proofs.Common.{◌≡◌, ℕ, zero, suc, ◌+◌, ◌<◌, Bool, true, false, not, ◌&&◌, ◌||◌, cond, ltb, eqb, List}
 use Rattle.std.proofs.Common.{[], ◌∷◌, ◌++◌, length, get_or, map, Option, Some, None, option_map, refl, sym, ap, ◌∙◌}
 use Rattle.std.proofs.Common.{subst, arith}
-use Rattle.std.specs.Prelude.{slice_get, zip, All}
-use Rattle.std.specs.List.{list_all}
-use Rattle.std.specs.Map.{lookup}
-use Rattle.std.specs.Ordering.{is_lt, ordering_then}
-use Rattle.std.specs.declared.cmp.Ordering.TheVariants.{Less, Equal, Greater}
-use Rattle.std.specs.declared.vec.Vec.{Vec}
+use Rattle.std.specs.Prelude.{slice_get, All}
 use Rattle.std.proofs.lemmas.List.{get_or-map, length-map}
 use Rattle.std.proofs.lemmas.List.Folds.{list_all-append, list_all-map}
 use Rattle.std.proofs.lemmas.Option.{slice_get_within, get_or_from_slice_get}
-use Rattle.typed_ids.specs.declared.version_set_id.VersionSetId.{VersionSetId}
-use Rattle.providers.specs.Provider.{Universe, sets_of}
-use Rattle.providers.specs.Requirement.{same_requirement}
-use Rattle.providers.specs.declared.requirement.Requirement.{Requirement}
-use Rattle.decisions.specs.Literals.{Values, known_true, known_false, is_false_literal}
-use Rattle.clauses.specs.Stored.{lists_found}
 use Rattle.clauses.specs.declared.disjunction.Disjunction.{Disjunction}
-use Rattle.falsified_clauses.specs.Clauses.{Counted, PlacedDemand, counted, no_clause, clause_at as placed_clause}
-use Rattle.falsified_clauses.specs.Falsified.{IsFirstFalsified, is_falsified as is_counted_falsified}
-use Rattle.resolvo_queue.specs.References.{CanWalk, References, literals_in, references, rows_in}
-use Rattle.resolvo_queue.specs.Rows.{all_false, list_rows, lists_or_none, lists_loaded, rows}
-use Rattle.resolvo_queue.specs.Scan.{are_literals_false, first_falsified, is_falsified}
-use Rattle.resolvo_queue.specs.Scan.First.{position_at}
-use Rattle.resolvo_queue.specs.Scan.Positions.{is_after}
-use Rattle.resolvo_queue.specs.declared.tracked_clause.Position.{Position}
-use Rattle.resolvo_queue.specs.declared.requires_clause.RequiresClause.{RequiresClause}
+use Rattle.falsified_clauses.specs.Clauses.{clause_at as placed_clause}
+use Rattle.falsified_clauses.specs.Falsified.{is_falsified as is_counted_falsified}
 use Rattle.resolvo_queue.proofs.Falsified.First.{falsified_by}
 use Rattle.resolvo_queue.proofs.Falsified.Least.{first_to_pass, none_to_pass, not_before_is_after}
-use Rattle.resolvo_store.specs.Counted.{clause_at, demand_of, placed, placed_in}
+use Rattle.resolvo_store.proofs.Words.{all_false, are_literals_false, CanWalk, clause_at, Counted, counted, demand_of}
+use Rattle.resolvo_store.proofs.Words.{Equal, first_falsified, Greater, is_after, is_false_literal, is_falsified, is_lt}
+use Rattle.resolvo_store.proofs.Words.{IsFirstFalsified, known_false, known_true, Less, list_all, list_rows}
+use Rattle.resolvo_store.proofs.Words.{lists_found, lists_loaded, lists_or_none, literals_in, lookup, no_clause}
+use Rattle.resolvo_store.proofs.Words.{ordering_then, placed, placed_in, PlacedDemand, Position, position_at}
+use Rattle.resolvo_store.proofs.Words.{References, references, Requirement, RequiresClause, rows, rows_in}
+use Rattle.resolvo_store.proofs.Words.{same_requirement, sets_of, Universe, Values, Vec, VersionSetId, zip}
 
 -- ---- positions
 

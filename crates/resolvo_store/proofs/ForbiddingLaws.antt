@@ -1,22 +1,14 @@
 -- What is tracked in a sound store forbids two of a name. N are the names, S the solvables.
 use Rattle.std.proofs.Common.{◌≡◌, ℕ, suc, Bool, true, false, cond, not, List, [], ◌∷◌, ◌++◌, length, refl, sym, ap}
 use Rattle.std.proofs.Common.{◌∙◌, arith}
-use Rattle.std.specs.Prelude.{◌||◌, nat_eq, filter, flat_map, if◌then◌else◌}
-use Rattle.std.specs.Bool.{beq}
-use Rattle.std.specs.Cmp.{IsEquivalence}
-use Rattle.std.specs.List.{AllByRecursion}
+use Rattle.std.specs.Prelude.{◌||◌, nat_eq, if◌then◌else◌}
 use Rattle.std.proofs.lemmas.Bool.{eqb-true}
 use Rattle.std.proofs.lemmas.Bool.Decides.{nat_tests}
-use Rattle.decisions.specs.Literals.{Pos, Neg}
-use Rattle.clauses.specs.declared.clause.Clause.{Clause}
+use Rattle.at_most_once.proofs.CallerLaws.{encodes}
+use Rattle.resolvo_store.proofs.Words.{AllByRecursion, beq, BitClause, bits, bits_of, Clause, filter, flat_map}
+use Rattle.resolvo_store.proofs.Words.{ForbidsTwo, is_forbidding, is_satisfied, IsEquivalence, IsSound, Neg, Pos, Store}
 use Rattle.clauses.specs.declared.clause.Clause.TheVariants as Kind
 use Rattle.at_most_once.specs.AtMostOne as one
-use Rattle.at_most_once.specs.AtMostOne.{BitClause}
-use Rattle.at_most_once.proofs.CallerLaws.{encodes}
-use Rattle.resolvo_store.specs.Store.{Store, bits}
-use Rattle.resolvo_store.specs.Tracking.{bits_of}
-use Rattle.resolvo_store.specs.ForbidsTwo.{is_forbidding, is_satisfied, ForbidsTwo}
-use Rattle.resolvo_store.specs.Sound.{IsSound}
 
 -- equality of numbers is an equivalence
 numbers : IsEquivalence nat_eq

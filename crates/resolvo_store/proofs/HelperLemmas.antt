@@ -1,14 +1,9 @@
 -- What is refused of a helper variable.
 use Rattle.std.proofs.Common.{◌≡◌, true, false, cond, not, [], ◌∷◌, length, None, Some, refl, ◌∙◌, ap}
-use Rattle.typed_ids.specs.declared.error.StoreError.TheVariants.{IdSpace, UnknownId}
-use Rattle.variables.specs.Variables.{are_variables_out}
-use Rattle.resolvo_store.specs.declared.helper_origin.HelperOrigin.{HelperOrigin}
-use Rattle.resolvo_store.specs.declared.helper_origin.HelperOrigin.TheVariants as Helps
-use Rattle.resolvo_store.specs.Command.{Helper}
-use Rattle.resolvo_store.specs.Helpers.{is_helper_known}
-use Rattle.resolvo_store.specs.Refusals.{first_refusal, knows_helper}
-use Rattle.resolvo_store.specs.Store.{Store}
+use Rattle.resolvo_store.proofs.Words.{are_variables_out, first_refusal, Helper, HelperOrigin, IdSpace, is_helper_known}
+use Rattle.resolvo_store.proofs.Words.{knows_helper, Store, UnknownId}
 use Rattle.resolvo_store.proofs.AddingLemmas.{found_first, none_yet, ids_alone}
+use Rattle.resolvo_store.specs.declared.helper_origin.HelperOrigin.TheVariants as Helps
 
 module _ {N S : Type 0} (st : Store N S) where
   -- what it is to stand for is known to the store as to its provider

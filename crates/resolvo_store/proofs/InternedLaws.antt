@@ -1,17 +1,13 @@
 -- A store stays sound, but for what is tracked, where solvables get variables.
 use Rattle.std.proofs.Common.{[], ◌≡◌, ℕ, ◌+◌, ◌<◌, List, ◌∷◌, ◌++◌, length}
 use Rattle.std.proofs.Common.{map, None, ◌∙◌}
-use Rattle.std.specs.Prelude.{◌-◌, All, flat_map}
+use Rattle.std.specs.Prelude.{◌-◌, All}
 use Rattle.std.proofs.lemmas.List.{length-map}
 use Rattle.std.proofs.lemmas.List.Elements.{All-nil, All-cons, All-weaker, All-map}
-use Rattle.providers.specs.declared.requirement.Requirement.{Requirement}
-use Rattle.providers.specs.Provider.{sets_of}
-use Rattle.variables.specs.declared.variable_origin.VariableOrigin.{VariableOrigin}
-use Rattle.variables.specs.Variables.{interned_variable, with_variable}
-use Rattle.variables.specs.Variables.{with_variables}
+use Rattle.variables.specs.Variables.{with_variable}
 use Rattle.variables.proofs.InterningLemmas.{longer-all}
-use Rattle.resolvo_store.specs.Store.{Store, lists_of}
-use Rattle.resolvo_store.specs.Sound.{IsVariable}
+use Rattle.resolvo_store.proofs.Words.{flat_map, interned_variable, IsVariable, lists_of, Requirement, sets_of, Store}
+use Rattle.resolvo_store.proofs.Words.{VariableOrigin, with_variables}
 use Rattle.resolvo_store.proofs.KnownLemmas.{IsKnownSolvable, IsLawful}
 use Rattle.resolvo_store.proofs.KnownLemmas.{known-with_variables}
 use Rattle.resolvo_store.proofs.PartLaws.{All-lists}

@@ -2,52 +2,37 @@
 use Rattle.std.proofs.Common.{[], ◌≡◌, ◌≢◌, ℕ, ◌<◌, ◌≤◌, ◌+◌, ◌-◌, ◌*◌, ◌/◌, ◌^◌, min, cond, true, not, List, ◌∷◌}
 use Rattle.std.proofs.Common.{◌++◌, length, map, Option, IsSome, Result, Ok, Err, refl, sym, subst}
 use Rattle.std.proofs.Common.{ap, ◌∙◌, inl, inr}
-use Rattle.std.specs.Prelude.{Bool, false, nat_eq, nat_lt, IfSome, IsTrue, OnOk, OnErr}
-use Rattle.typed_ids.specs.TotalMaps.{IsUpdate, SameValues}
-use Rattle.std.specs.List.{list_all}
+use Rattle.std.specs.Prelude.{Bool, false, nat_eq}
 use Rattle.std.proofs.Math.Nat.{zero-mul, zero-div}
 use Rattle.std.proofs.lemmas.List.{map-append}
-use Rattle.std.specs.declared.vec.Vec.{Vec}
 use Rattle.std.proofs.lemmas.List.Elements.{All-push}
-use Rattle.providers.specs.declared.requirement.Requirement.{Requirement}
-use Rattle.providers.specs.Provider.{knows_requirement, sets_of}
-use Rattle.variables.specs.declared.variable_origin.VariableOrigin.{VariableOrigin}
-use Rattle.decisions.specs.Trail.{Entry, Trail, val, pushed, floor_taken, AddsEntry}
-use Rattle.decisions.specs.declared.decision_tracker.AddFault.{AddFault}
-use Rattle.decisions.specs.Literals.{Lit, variable_of}
-use Rattle.clauses.specs.declared.clause.Clause.{Clause}
-use Rattle.clauses.specs.declared.clause.Clause.TheVariants as Kind
-use Rattle.clauses.specs.Clauses.{first_watches}
-use Rattle.watch_map.specs.Watching.{is_literal_in}
-use Rattle.watch_map.specs.ClauseList.{Clauses, two_or_none, can_rewatch, with_clause as list_added}
-use Rattle.watch_map.specs.ClauseList.{with_learnt as learnt_one, with_rewatched as list_rewatched, with_forbidden}
+use Rattle.watch_map.specs.ClauseList.{with_clause as list_added, with_learnt as learnt_one}
+use Rattle.watch_map.specs.ClauseList.{with_rewatched as list_rewatched}
 use Rattle.clauses.specs.declared.disjunction.Disjunction.{Disjunction}
-use Rattle.resolvo_queue.specs.declared.requires_clause.RequiresClause.{RequiresClause}
-use Rattle.resolvo_queue.specs.Queue.{Queue, SameClauses, SameSync, IsUnchanged, IsRegistered, HasTrail}
-use Rattle.resolvo_queue.specs.Queue.{OnlyHotScore, StandsOn}
-use Rattle.resolvo_queue.specs.References.{References, references}
+use Rattle.resolvo_queue.specs.Queue.{IsRegistered}
 use Rattle.resolvo_queue.proofs.Clauses.Callers.{stands_with_disjunction}
-use Rattle.resolvo_store.specs.Lists.{stored_disjunctions, IsConsistent, IsOneMore}
-use Rattle.resolvo_store.specs.Synced.{decisions_of, IsInStep, MayDecide}
+use Rattle.resolvo_store.proofs.Words.{AddFault, AddsEntry, bumped, Cache, can_rewatch, Clause, clause_literals}
+use Rattle.resolvo_store.proofs.Words.{Clauses, decayed, decisions_of, Entry, first_watches, floor_taken, HasTrail}
+use Rattle.resolvo_store.proofs.Words.{helper_for, IfSome, is_direct, is_helper_among, is_literal_in, is_tracked}
+use Rattle.resolvo_store.proofs.Words.{IsConsistent, IsInStep, IsOneMore, IsSound, IsTrue, IsUnchanged, IsUpdate}
+use Rattle.resolvo_store.proofs.Words.{knows_requirement, list_all, lists_of, Lit, MayDecide, names_known, nat_lt}
+use Rattle.resolvo_store.proofs.Words.{OnErr, OnlyHotScore, OnOk, origins_with, pushed, Queue, References, references}
+use Rattle.resolvo_store.proofs.Words.{Requirement, RequiresClause, SameClauses, SameSync, SameValues, sets_of}
+use Rattle.resolvo_store.proofs.Words.{StandsOn, Store, stored_disjunctions, stored_of, Tracker, tracking, Trail}
+use Rattle.resolvo_store.proofs.Words.{two_or_none, val, values, variable_of, VariableOrigin, Vec, with_forbidden}
 use Rattle.resolvo_store.proofs.SyncedLemmas.{in_step-pushed, in_step-same, in_step-unchanged}
 use Rattle.resolvo_store.proofs.SyncedLemmas.{in_step-registered, in_step-synced, in_step-refused}
-use Rattle.resolvo_store.specs.Sound.{IsSound}
-use Rattle.resolvo_store.specs.Store.{Store, values, lists_of, stored_of}
-use Rattle.resolvo_store.specs.Store.{clause_literals, watched_by}
-use Rattle.at_most_once.specs.AtMostOne.{Tracker, is_tracked}
+use Rattle.resolvo_store.specs.Store.{watched_by}
 use Rattle.at_most_once.specs.NameTrackers.{with_tracked as trackers_with}
-use Rattle.id_maps.specs.Scores.{bumped, decayed}
-use Rattle.resolvo_store.specs.Tracking.{origins_with, is_helper_among}
-use Rattle.resolvo_store.specs.Outcome.{with_clause, with_learnt, helper_for, tracking}
+use Rattle.resolvo_store.specs.Outcome.{with_clause, with_learnt}
 use Rattle.resolvo_store.proofs.TrackedLaws.{IsSound-tracked}
 use Rattle.resolvo_store.proofs.AddingLemmas.{both, failed}
 use Rattle.resolvo_store.proofs.LearningLemmas.{learnt_watches}
-use Rattle.solver_cache.specs.Cache.{Cache}
-use Rattle.resolvo_store.specs.Adding.{is_direct, names_known}
 use Rattle.resolvo_store.proofs.KnownLemmas.{IsLawful, known_direct, literals_below}
 use Rattle.resolvo_store.proofs.SoundLaws.{IsSound-scored, IsSound-pushed, IsSound-added, IsSound-disjunction}
 use Rattle.resolvo_store.proofs.SoundLaws.{IsSound-learnt, IsSound-requires, IsSound-rewatched}
 use Rattle.resolvo_store.proofs.PartOutcomes.{either, added_or_same, list_of, with_list, plain_direct, tracked_parts}
+use Rattle.clauses.specs.declared.clause.Clause.TheVariants as Kind
 
 module _ {D N S A H Q : Type 0} {has : Q → N → Bool} {st : Store N S} {loaded : List (Requirement × Vec (Vec ℕ A) A)}
     {disjunctions : List (Disjunction A)}

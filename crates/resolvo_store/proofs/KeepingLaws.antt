@@ -2,36 +2,26 @@
 use Rattle.std.proofs.Common.{◌≡◌, ℕ, zero, suc, ◌+◌, Bool, true, false, cond, nat_eq, List, [], ◌∷◌, ◌++◌, length}
 use Rattle.std.proofs.Common.{Option, None, Some, refl, sym, ◌∙◌, ap, subst, inl, inr}
 use Rattle.std.specs.Prelude.{slice_get, drop, ◌||◌}
-use Rattle.std.specs.List.{list_any}
-use Rattle.std.specs.Map.{lookup}
 use Rattle.std.proofs.lemmas.List.{take-append-drop}
-use Rattle.providers.specs.declared.requirement.Requirement.{Requirement}
-use Rattle.providers.specs.Requirement.{same_requirement}
-use Rattle.variables.specs.declared.variable_origin.VariableOrigin.{VariableOrigin}
-use Rattle.variables.specs.declared.variable_origin.VariableOrigin.TheVariants.{ForbidMultiple}
-use Rattle.variables.specs.Variables.{with_variables}
 use Rattle.variables.proofs.InterningLemmas.{front_of_part, wholly}
-use Rattle.decisions.specs.Literals.{Lit}
-use Rattle.decisions.specs.Trail.{Entry}
-use Rattle.clauses.specs.declared.clause.Clause.{Clause}
-use Rattle.clauses.specs.declared.clause.Clause.TheVariants as Kind
-use Rattle.at_most_once.specs.AtMostOne.{Tracker, BitClause, is_tracked, with_helper, with_variable}
+use Rattle.at_most_once.specs.AtMostOne.{with_variable}
 use Rattle.at_most_once.specs.NameTrackers.{with_tracked as trackers_with}
-use Rattle.solver_cache.specs.Questions.{BeginsWith}
 use Rattle.solver_cache.proofs.CacheLemmas.{begins_same, begins_more, begins_trans}
-use Rattle.resolvo_store.specs.Command.{Command, Variable, Helper, Load, Requires, Root, Constrains}
-use Rattle.resolvo_store.specs.Command.{ConstrainsExcluded, ConstrainsParent, Lock, Exclude, AnyOf, Learnt, Assign}
-use Rattle.resolvo_store.specs.Command.{UndoLast, UndoUntil, Unpropagated, Rewatch, Watchers, Saturate, Decide}
-use Rattle.resolvo_store.specs.Command.{Disjunction, AtMostOnce, Bump, Decay, Standard, Reply, TrackedAs, is_saturate}
-use Rattle.resolvo_store.specs.Store.{Store, Provider, lists_of, all_candidates}
-use Rattle.resolvo_store.specs.Tracking.{forbidding, origins_with}
-use Rattle.resolvo_store.specs.Outcome.{Outcome, outcome, load, hands_next, variables_loaded, adds_clause, helper_for}
-use Rattle.resolvo_store.specs.Outcome.{helper_origin, tracking, with_bits, with_tracked, with_learnt}
-use Rattle.resolvo_store.specs.Outcome.{with_registered, with_disjunction}
-use Rattle.resolvo_store.specs.Step.{Step, Run}
-use Rattle.resolvo_store.specs.Growth.{OnlyGrows}
+use Rattle.resolvo_store.proofs.Words.{adds_clause, all_candidates, AnyOf, Assign, AtMostOnce, BeginsWith, BitClause}
+use Rattle.resolvo_store.proofs.Words.{Bump, Clause, Command, Constrains, ConstrainsExcluded, ConstrainsParent, Decay}
+use Rattle.resolvo_store.proofs.Words.{Decide, Entry, Exclude, forbidding, ForbidMultiple, hands_next, Helper}
+use Rattle.resolvo_store.proofs.Words.{helper_for, helper_origin, is_saturate, is_tracked, Learnt, list_any, lists_of}
+use Rattle.resolvo_store.proofs.Words.{Lit, Load, load, Lock, lookup, OnlyGrows, origins_with, Outcome, outcome, Reply}
+use Rattle.resolvo_store.proofs.Words.{Requirement, Requires, Rewatch, Run, same_requirement, Saturate, Standard, Step}
+use Rattle.resolvo_store.proofs.Words.{Store, TrackedAs, Tracker, tracking, UndoLast, UndoUntil, Unpropagated, Variable}
+use Rattle.resolvo_store.proofs.Words.{VariableOrigin, variables_loaded, Watchers, with_bits, with_disjunction}
+use Rattle.resolvo_store.proofs.Words.{with_helper, with_registered, with_tracked, with_variables}
+use Rattle.resolvo_store.specs.Command.{Root, Disjunction}
+use Rattle.resolvo_store.specs.Store.{Provider}
+use Rattle.resolvo_store.specs.Outcome.{with_learnt}
 use Rattle.resolvo_store.proofs.KnownLemmas.{IsLawful}
 use Rattle.resolvo_store.proofs.SoundSteps.{step_store, step_saturated}
+use Rattle.clauses.specs.declared.clause.Clause.TheVariants as Kind
 
 -- ---- lists that begin with others
 

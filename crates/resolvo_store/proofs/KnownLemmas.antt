@@ -1,26 +1,19 @@
 -- What stores name is known: what variables stand for, and what clauses name. N are the names, S the solvables.
 use Rattle.std.proofs.Common.{◌≡◌, ℕ, ◌+◌, ◌<◌, ◌≤◌, arith, Bool, true, false, List, [], ◌∷◌, ◌++◌, length, Option}
 use Rattle.std.proofs.Common.{None, Some, refl, subst, zero, suc}
-use Rattle.std.specs.Prelude.{All, ◌&&◌, is_some, if◌then◌else◌, flat_map, nat_lt}
-use Rattle.std.specs.List.{list_all, position_from, remove}
-use Rattle.std.specs.List.Sorted.{IsPermutation}
+use Rattle.std.specs.Prelude.{All, ◌&&◌, if◌then◌else◌}
 use Rattle.std.proofs.lemmas.Bool.Decides.{nat_tests}
 use Rattle.std.proofs.lemmas.List.Elements.{All-nil, All-cons, All-head, All-tail, All-push, All-append, All-take}
 use Rattle.std.proofs.lemmas.List.Elements.{All-drop, All-filter}
 use Rattle.std.proofs.lemmas.List.Sorted.{All-permutation}
-use Rattle.typed_ids.specs.declared.version_set_id.VersionSetId.{VersionSetId}
-use Rattle.providers.specs.Provider.{Universe, matching, sorted, favored_first, from_place}
-use Rattle.variables.specs.declared.variable_origin.VariableOrigin.{VariableOrigin}
-use Rattle.variables.specs.declared.variable_origin.VariableOrigin.TheVariants.{Solvable}
-use Rattle.variables.specs.Variables.{variable_of_solvable, with_variable, with_variables}
-use Rattle.variables.specs.VariableTexts.{knows_origin}
-use Rattle.decisions.specs.Literals.{Lit, variable_of}
-use Rattle.clauses.specs.ClauseTexts.{IsKnown, IsKnownClause}
-use Rattle.clauses.specs.declared.clause.Clause.{Clause}
-use Rattle.clauses.specs.declared.clause.Clause.TheVariants as Kind
-use Rattle.resolvo_store.specs.Adding.{names_known}
+use Rattle.variables.specs.Variables.{with_variable}
+use Rattle.resolvo_store.proofs.Words.{Clause, favored_first, flat_map, from_place, is_some, IsKnown, IsKnownClause}
+use Rattle.resolvo_store.proofs.Words.{IsPermutation, knows_origin, list_all, Lit, matching, names_known, nat_lt}
+use Rattle.resolvo_store.proofs.Words.{position_from, remove, Solvable, sorted, Universe, variable_of}
+use Rattle.resolvo_store.proofs.Words.{variable_of_solvable, VariableOrigin, VersionSetId, with_variables}
 use Rattle.resolvo_store.specs.Store.{Provider}
 use Rattle.resolvo_store.proofs.AddingLemmas.{both}
+use Rattle.clauses.specs.declared.clause.Clause.TheVariants as Kind
 
 module _ {N S : Type 0} (universe : Universe N S) where
   -- what the origin names is known

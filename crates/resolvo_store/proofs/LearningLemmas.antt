@@ -1,29 +1,20 @@
 -- Learnt clauses, and what is kept where the list of clauses answers.
 use Rattle.std.proofs.Common.{[], ◌≡◌, ℕ, ◌<◌, ◌-◌, Bool, true, false, cond, List, ◌∷◌, ◌++◌, length}
 use Rattle.std.proofs.Common.{Option, None, Some, Result, Ok, Err, refl, arith, sym, ◌∙◌, ap, subst}
-use Rattle.std.specs.Prelude.{IsTrue, slice_get, unwrap_or}
-use Rattle.std.specs.Prelude.{IfOk, OnOk, OnErr, IfErr}
-use Rattle.typed_ids.specs.Refusals.{IsGrowthRefusal}
-use Rattle.typed_ids.specs.declared.error.StoreError.{StoreError}
-use Rattle.typed_ids.specs.declared.error.StoreError.TheVariants.{IdSpace}
-use Rattle.providers.specs.declared.requirement.Requirement.{Requirement}
-use Rattle.decisions.specs.Literals.{Lit}
-use Rattle.resolvo_queue.specs.declared.requires_clause.RequiresClause.{RequiresClause}
-use Rattle.clauses.specs.Clauses.{first_watches, is_conflict, watch_ends}
-use Rattle.clauses.specs.declared.clause.Clause.{Clause}
-use Rattle.clauses.specs.declared.clause.Clause.TheVariants as Kind
-use Rattle.watch_map.specs.ClauseList.{Clauses, two_or_none, with_clause as pushed, with_learnt as learnt_one}
-use Rattle.resolvo_store.specs.Answers.{replied}
-use Rattle.resolvo_store.specs.Command.{Command, Learnt, Requires, Reply}
-use Rattle.resolvo_store.specs.Command.{ClauseIs, is_saturate}
-use Rattle.resolvo_store.specs.Store.{Store, Provider, StoreState, store_of, values, stored_of}
-use Rattle.resolvo_store.specs.Refusals.{first_refusal, are_clauses_out, is_learnt_out}
-use Rattle.resolvo_store.specs.Refusals.{is_bad_learnt}
-use Rattle.resolvo_store.specs.Adding.{is_direct, adding, names_known}
-use Rattle.resolvo_store.specs.Outcome.{outcome, adds_clause, with_clause, with_learnt, with_registered}
-use Rattle.resolvo_store.specs.Step.{Step, lacks_ids, takes_no_memory}
+use Rattle.std.specs.Prelude.{slice_get}
+use Rattle.watch_map.specs.ClauseList.{with_clause as pushed, with_learnt as learnt_one}
+use Rattle.resolvo_store.proofs.Words.{adding, adds_clause, are_clauses_out, Clause, ClauseIs, Clauses, Command}
+use Rattle.resolvo_store.proofs.Words.{first_refusal, first_watches, IdSpace, IfErr, IfOk, is_bad_learnt, is_conflict}
+use Rattle.resolvo_store.proofs.Words.{is_direct, is_learnt_out, is_saturate, IsGrowthRefusal, IsTrue, lacks_ids}
+use Rattle.resolvo_store.proofs.Words.{Learnt, Lit, names_known, OnErr, OnOk, outcome, replied, Reply, Requirement}
+use Rattle.resolvo_store.proofs.Words.{Requires, RequiresClause, Step, Store, store_of, stored_of, StoreError}
+use Rattle.resolvo_store.proofs.Words.{StoreState, takes_no_memory, two_or_none, unwrap_or, values, watch_ends}
+use Rattle.resolvo_store.proofs.Words.{with_registered}
+use Rattle.resolvo_store.specs.Store.{Provider}
+use Rattle.resolvo_store.specs.Outcome.{with_clause, with_learnt}
 use Rattle.resolvo_store.proofs.AddingLemmas.{growth_fits, growth_refusal, first_of_direct, direct_adds}
 use Rattle.resolvo_store.proofs.AddingLemmas.{step_clause, step_refused, with_made}
+use Rattle.clauses.specs.declared.clause.Clause.TheVariants as Kind
 
 -- where nothing is wrong with them, there are some
 pub not_empty : (ls : List Lit) → is_bad_learnt ls ≡ false → 0 < length ls

@@ -34,3 +34,4 @@ pub mod TrackingSteps
 pub mod TrailModelLaws
 pub mod WalkLemmas
 pub mod WatchLaws
+pub mod Words

@@ -1,24 +1,15 @@
 -- The rows of loaded requirements, by what is kept of them.
 use Rattle.std.proofs.Common.{◌≡◌, ℕ, ◌+◌, length-append, Bool, arith, true, false, cond, List, [], ◌∷◌, ◌++◌, map}
 use Rattle.std.proofs.Common.{Option, Some, None, refl, ◌∙◌, sym, ap}
-use Rattle.std.specs.Prelude.{◌<◌, ◌^◌, vec_len, length, flat_map, is_some, option_map, unwrap_or}
-use Rattle.std.specs.Borrow.{Bor}
-use Rattle.std.specs.List.{AllZip, each_same}
-use Rattle.std.specs.Map.{lookup}
-use Rattle.std.specs.Option.{option_copied}
-use Rattle.std.specs.declared.vec.Vec.{Vec}
+use Rattle.std.specs.Prelude.{◌<◌, ◌^◌, vec_len, length, option_map}
 use Rattle.std.proofs.Math.Path.{fun_ext}
 use Rattle.std.proofs.lemmas.List.{length-map}
 use Rattle.std.proofs.lemmas.Map.Made.{lookup-map_values}
-use Rattle.providers.specs.RequirementMap.{with_entry}
-use Rattle.providers.specs.declared.requirement.Requirement.{Requirement}
-use Rattle.providers.specs.Requirement.{same_requirement}
-use Rattle.providers.specs.Provider.{Universe, sets_of}
-use Rattle.decisions.specs.Literals.{Lit}
-use Rattle.clauses.specs.Stored.{stored_in, lists_found}
 use Rattle.clauses.specs.declared.disjunction.Disjunction.{Disjunction}
-use Rattle.resolvo_queue.specs.Rows.{Row, rows, lists_or_none, loaded_rows, AreFew}
-use Rattle.resolvo_store.specs.Lists.{lists_of_loaded, stored_disjunctions}
+use Rattle.resolvo_store.proofs.Words.{AllZip, AreFew, Bor, each_same, flat_map, is_some, lists_found, lists_of_loaded}
+use Rattle.resolvo_store.proofs.Words.{lists_or_none, Lit, loaded_rows, lookup, option_copied, Requirement, Row, rows}
+use Rattle.resolvo_store.proofs.Words.{same_requirement, sets_of, stored_disjunctions, stored_in, Universe, unwrap_or}
+use Rattle.resolvo_store.proofs.Words.{Vec, with_entry}
 pub use Rattle.resolvo_store.specs.Lists.{items_of}
 
 -- lists have few rows in all

@@ -1,23 +1,17 @@
 -- The variables of all clauses' literals are the store's. N are the names, S the solvables.
 use Rattle.std.proofs.Common.{◌≡◌, ℕ, ◌<◌, arith, Bool, true, false, cond, List, [], ◌∷◌, ◌++◌, length, map, Option}
 use Rattle.std.proofs.Common.{None, Some, refl, sym, subst, zero, suc}
-use Rattle.std.specs.Prelude.{All, ◌||◌, slice_get, option_map, unwrap_or, flat_map}
-use Rattle.std.specs.Map.{lookup}
+use Rattle.std.specs.Prelude.{All, ◌||◌, slice_get, option_map}
 use Rattle.std.proofs.lemmas.List.Elements.{All-nil, All-cons, All-head, All-tail, All-append, All-map, All-weaker}
 use Rattle.std.proofs.lemmas.Option.{slice_get_within}
-use Rattle.providers.specs.declared.requirement.Requirement.{Requirement}
-use Rattle.providers.specs.Requirement.{same_requirement}
 use Rattle.variables.specs.declared.variable_origin.VariableOrigin.TheVariants.{Root}
-use Rattle.decisions.specs.Literals.{Lit, Pos, Neg, variable_of}
-use Rattle.clauses.specs.declared.clause.Clause.{Clause}
-use Rattle.clauses.specs.declared.clause.Clause.TheVariants as Kind
-use Rattle.clauses.specs.Clauses.{literals_of, condition_literals, same_literal}
-use Rattle.clauses.specs.ClauseTexts.{IsKnown, IsKnownClause}
-use Rattle.watch_map.specs.Watching.{is_literal_in}
 use Rattle.watch_map.proofs.WatchingLaws.{same_is}
-use Rattle.resolvo_store.specs.Store.{Store, StoredDisjunction, lists_of, stored_of, clause_literals}
-use Rattle.resolvo_store.specs.Sound.{IsSound, IsLoaded, IsVariable, AreLiterals}
+use Rattle.resolvo_store.proofs.Words.{AreLiterals, Clause, clause_literals, condition_literals, flat_map}
+use Rattle.resolvo_store.proofs.Words.{is_literal_in, IsKnown, IsKnownClause, IsLoaded, IsSound, IsVariable, lists_of}
+use Rattle.resolvo_store.proofs.Words.{Lit, literals_of, lookup, Neg, Pos, Requirement, same_literal, same_requirement}
+use Rattle.resolvo_store.proofs.Words.{Store, stored_of, StoredDisjunction, unwrap_or, variable_of}
 use Rattle.resolvo_store.proofs.KnownLemmas.{known_within}
+use Rattle.clauses.specs.declared.clause.Clause.TheVariants as Kind
 
 -- ---- lists
 

@@ -2,29 +2,17 @@
 use Rattle.std.proofs.Common.{[], ◌≡◌, ℕ, ◌<◌, ◌+◌, ◌-◌, ◌^◌, true, List, ◌∷◌}
 use Rattle.std.proofs.Common.{◌++◌, length, map, None, refl, sym, subst}
 use Rattle.std.proofs.Common.{ap, ◌∙◌}
-use Rattle.std.specs.Prelude.{Bool, flat_map, All}
-use Rattle.std.specs.Map.{lookup}
+use Rattle.std.specs.Prelude.{Bool, All}
 use Rattle.std.proofs.lemmas.List.Folds.{flat_map-map}
-use Rattle.typed_ids.specs.declared.version_set_id.VersionSetId.{VersionSetId}
-use Rattle.providers.specs.RequirementMap.{with_entry}
-use Rattle.providers.specs.Requirement.{same_requirement}
-use Rattle.std.specs.declared.vec.Vec.{Vec}
 use Rattle.std.proofs.lemmas.List.Elements.{All-push}
-use Rattle.providers.specs.declared.requirement.Requirement.{Requirement}
-use Rattle.providers.specs.Provider.{sets_of}
-use Rattle.variables.specs.declared.variable_origin.VariableOrigin.{VariableOrigin}
-use Rattle.variables.specs.Variables.{with_variables, interned_variable}
-use Rattle.decisions.specs.Trail.{Trail}
 use Rattle.clauses.specs.declared.disjunction.Disjunction.{Disjunction}
-use Rattle.resolvo_queue.specs.Queue.{Queue}
-use Rattle.resolvo_queue.specs.References.{references}
 use Rattle.resolvo_queue.proofs.Clauses.Callers.{stands_with_lists}
-use Rattle.resolvo_store.specs.Lists.{lists_of_loaded, AreQueried, IsConsistent}
-use Rattle.resolvo_store.specs.Sound.{IsSound}
-use Rattle.resolvo_store.specs.Store.{Store, Provider, StoreState, store_of}
+use Rattle.resolvo_store.proofs.Words.{AreQueried, Cache, flat_map, interned_variable, is_set_queried, IsConsistent}
+use Rattle.resolvo_store.proofs.Words.{IsLater, IsSound, lists_of_loaded, lookup, Queue, references, Requirement}
+use Rattle.resolvo_store.proofs.Words.{same_requirement, sets_of, Store, store_of, StoreState, Trail, VariableOrigin}
+use Rattle.resolvo_store.proofs.Words.{Vec, VersionSetId, with_entry, with_variables}
+use Rattle.resolvo_store.specs.Store.{Provider}
 use Rattle.resolvo_store.proofs.ListLemmas.{items_of, lookup-none, insert-kept, few-more, length-mapped}
-use Rattle.solver_cache.specs.Cache.{Cache, is_set_queried}
-use Rattle.solver_cache.specs.Questions.{IsLater}
 use Rattle.solver_cache.proofs.CacheLemmas.{asked_later}
 use Rattle.resolvo_store.proofs.KnownLemmas.{IsKnownSolvable, IsLawful}
 use Rattle.resolvo_store.proofs.SoundLaws.{IsSound-with_variables, IsSound-interned}

@@ -1,26 +1,16 @@
 -- Loading a requirement.
 use Rattle.std.proofs.Common.{◌≡◌, ℕ, ◌^◌, ◌<◌, Bool, true, false, not, arith, ◌||◌, List, [], ◌∷◌, length, Option}
 use Rattle.std.proofs.Common.{None, Some, Result, Ok, Err, ◌∙◌, ap, subst, sym, leb, refl, true≢false}
-use Rattle.std.specs.Prelude.{is_none, ◌&&◌, All, find, option_map, MatchOption, IfErr}
-use Rattle.std.specs.List.{list_any, list_all}
+use Rattle.std.specs.Prelude.{◌&&◌, All, option_map}
 use Rattle.std.proofs.Math.Bool.{or-true, and-false}
 use Rattle.std.proofs.lemmas.Bool.Decides.{nat_tests}
 use Rattle.std.proofs.lemmas.List.Elements.{All-head, All-tail}
-use Rattle.typed_ids.specs.Refusals.{IsGrowthRefusal}
-use Rattle.typed_ids.specs.declared.error.StoreError.{StoreError}
-use Rattle.typed_ids.specs.declared.error.StoreError.TheVariants.{OutOfMemory, IdSpace, UnknownId, Cancelled}
-use Rattle.typed_ids.specs.declared.version_set_id.VersionSetId.{VersionSetId}
-use Rattle.providers.specs.declared.requirement.Requirement.{Requirement}
-use Rattle.providers.specs.Provider.{sets_of, knows_requirement}
-use Rattle.variables.specs.Variables.{lacks_variables}
-use Rattle.solver_cache.specs.Cache.{Cache, is_queried, is_set_queried}
-use Rattle.solver_cache.specs.Questions.{lacks_candidates}
-use Rattle.resolvo_store.specs.Command.{Reply, Load, LoadedAs, Refused}
-use Rattle.resolvo_store.specs.LoadRefusals.{IsLoadRefusal}
-use Rattle.resolvo_store.specs.Lists.{AreQueried}
-use Rattle.resolvo_store.specs.Store.{Store, lists_of, all_candidates}
-use Rattle.resolvo_store.specs.Outcome.{load, variables_loaded}
-use Rattle.resolvo_store.specs.Step.{is_named, lacks_ids, may_be_refused, IsAnswered, Step}
+use Rattle.resolvo_store.proofs.Words.{all_candidates, AreQueried, Cache, Cancelled, find, IdSpace, IfErr, is_named}
+use Rattle.resolvo_store.proofs.Words.{is_none, is_queried, is_set_queried, IsAnswered, IsGrowthRefusal, IsLoadRefusal}
+use Rattle.resolvo_store.proofs.Words.{knows_requirement, lacks_candidates, lacks_ids, lacks_variables, list_all}
+use Rattle.resolvo_store.proofs.Words.{list_any, lists_of, Load, load, LoadedAs, MatchOption, may_be_refused}
+use Rattle.resolvo_store.proofs.Words.{OutOfMemory, Refused, Reply, Requirement, sets_of, Step, Store, StoreError}
+use Rattle.resolvo_store.proofs.Words.{UnknownId, variables_loaded, VersionSetId}
 use Rattle.resolvo_store.proofs.CandidateLaws.{found_last}
 
 -- what follows of a refusal

@@ -1,38 +1,27 @@
 -- The marks of a store: which of them are marks after each command. N are the names, S the solvables.
 use Rattle.std.proofs.Common.{◌≡◌, ℕ, ◌+◌, true, List, [], ◌∷◌, ◌++◌, length, map, Result, Ok, Err, refl}
 use Rattle.std.proofs.Common.{sym, subst, ap, ◌∙◌, inl, inr, set, arith, append-nil, append_assoc}
-use Rattle.std.specs.Prelude.{Option, Some, None, Bool, not, take, drop, slice_get}
-use Rattle.std.specs.Prelude.{slice_index_or, unwrap_or, IsTrue, OnOk, OnErr}
+use Rattle.std.specs.Prelude.{Option, Some, None, Bool, not, take, drop, slice_get, slice_index_or}
 use Rattle.std.proofs.lemmas.List.{map-append}
 use Rattle.std.proofs.Math.Seq.{drop-append_seam}
-use Rattle.std.specs.Map.{lookup}
-use Rattle.std.specs.declared.vec.Vec.{Vec}
-use Rattle.providers.specs.declared.requirement.Requirement.{Requirement}
-use Rattle.providers.specs.Requirement.{same_requirement}
-use Rattle.providers.specs.RequirementMap.{with_entry}
-use Rattle.decisions.specs.Literals.{Lit}
-use Rattle.decisions.specs.Trail.{Entry, Trail, AddsEntry}
-use Rattle.decisions.specs.declared.decision_tracker.AddFault.{AddFault}
-use Rattle.clauses.specs.declared.clause.Clause.{Clause}
-use Rattle.clauses.specs.declared.clause.Clause.TheVariants as Kind
-use Rattle.clauses.specs.Clauses.{literals_of, watch_ends}
 use Rattle.clauses.specs.declared.disjunction.Disjunction.{Disjunction}
-use Rattle.watch_map.specs.Watching.{is_literal_in}
-use Rattle.watch_map.specs.ClauseList.{Clauses, with_clause, with_learnt, with_forbidden, with_forbidden_one}
-use Rattle.watch_map.specs.ClauseList.{with_rewatched, rewatched, can_rewatch, two_or_none, bit_watches}
-use Rattle.watch_map.specs.Marks.{AreMarks, marks_below, none_false_at, none_watched_false}
-use Rattle.watch_map.specs.declared.marks.Mark.{Mark}
-use Rattle.watch_map.specs.declared.marks.Limit.TheVariants.{Place}
+use Rattle.watch_map.specs.ClauseList.{with_clause, with_learnt, with_rewatched}
 use Rattle.watch_map.proofs.ListCallerLaws.{watched_at, set_watches, watching_within}
 use Rattle.watch_map.proofs.MarkLaws.{marks_longer, marks_shorter, marks_grown, marks_watching}
 use Rattle.watch_map.proofs.MarkedLists.{marks_added}
-use Rattle.resolvo_store.specs.Store.{Store, StoredDisjunction, clause_literals, stored_of, watched_by}
-use Rattle.resolvo_store.specs.Lists.{HasMarks, lists_of_loaded, stored_disjunctions}
+use Rattle.resolvo_store.proofs.Words.{AddFault, AddsEntry, AreMarks, bit_watches, can_rewatch, Clause, clause_literals}
+use Rattle.resolvo_store.proofs.Words.{Clauses, Entry, HasMarks, is_literal_in, IsTrue, lists_of_loaded, Lit}
+use Rattle.resolvo_store.proofs.Words.{literals_of, lookup, Mark, marks_below, none_false_at, none_watched_false, OnErr}
+use Rattle.resolvo_store.proofs.Words.{OnOk, Place, Requirement, rewatched, same_requirement, Store}
+use Rattle.resolvo_store.proofs.Words.{stored_disjunctions, stored_of, StoredDisjunction, Trail, two_or_none, unwrap_or}
+use Rattle.resolvo_store.proofs.Words.{Vec, watch_ends, with_entry, with_forbidden, with_forbidden_one}
+use Rattle.resolvo_store.specs.Store.{watched_by}
 use Rattle.resolvo_store.proofs.AddingLemmas.{both}
 use Rattle.resolvo_store.proofs.PartOutcomes.{list_of, with_list, either}
 use Rattle.resolvo_store.proofs.ListLemmas.{items_of, insert-kept}
 use Rattle.resolvo_store.proofs.WatchLaws.{at_grown, at_before, found_before, asked_before, lists_before}
 use Rattle.resolvo_store.proofs.WatchLaws.{literals_learnt, literals_listed, literals_asked}
+use Rattle.clauses.specs.declared.clause.Clause.TheVariants as Kind
 
 -- ---- lists of clauses with more in them
 

@@ -2,24 +2,17 @@
 -- solvables.
 use Rattle.std.proofs.Common.{◌≡◌, ℕ, zero, suc, ◌<◌, Bool, true, false, cond, not, List, [], ◌∷◌, ◌++◌, length}
 use Rattle.std.proofs.Common.{Option, Some, None, refl, sym, ap, subst, ◌∙◌, inl, inr, arith}
-use Rattle.std.specs.Prelude.{All, ◌&&◌, ◌||◌, slice_get, option_map, unwrap_or}
-use Rattle.std.specs.List.{list_any}
+use Rattle.std.specs.Prelude.{All, ◌&&◌, ◌||◌, slice_get, option_map}
 use Rattle.std.proofs.lemmas.List.{append-nil, append_assoc}
 use Rattle.std.proofs.lemmas.List.Elements.{All-head, All-tail}
-use Rattle.decisions.specs.Literals.{Lit, Pos, Neg, Values, truth, known_false, undecided, is_false_literal}
-use Rattle.decisions.specs.Trail.{Entry, val}
-use Rattle.decisions.specs.declared.decision.Decision.{Decision}
-use Rattle.clauses.specs.declared.clause.Clause.{Clause}
-use Rattle.clauses.specs.Clauses.{same_literal, literals_of}
-use Rattle.watch_map.specs.Watching.{is_literal_in}
-use Rattle.watch_map.specs.Implication.{is_false, are_others_false, decided_literal, IsImplied, AreImplied}
 use Rattle.watch_map.proofs.ImplicationLaws.{forced_is_own}
 use Rattle.watch_map.proofs.ValueLaws.{val_of_more}
 use Rattle.watch_map.proofs.WatchingLaws.{same_is}
-use Rattle.resolvo_store.specs.Store.{Store, values, stored_of, clause_literals}
-use Rattle.resolvo_store.specs.ForbidsTwo.{is_true_literal, is_satisfied}
-use Rattle.resolvo_store.specs.Models.{Agrees, IsModel, IsModelNow}
-use Rattle.resolvo_store.specs.Saturating.{IsSaturated, HasConflict}
+use Rattle.resolvo_store.proofs.Words.{Agrees, are_others_false, AreImplied, Clause, clause_literals, decided_literal}
+use Rattle.resolvo_store.proofs.Words.{Decision, Entry, HasConflict, is_false, is_false_literal, is_literal_in}
+use Rattle.resolvo_store.proofs.Words.{is_satisfied, is_true_literal, IsImplied, IsModel, IsModelNow, IsSaturated}
+use Rattle.resolvo_store.proofs.Words.{known_false, list_any, Lit, literals_of, Neg, Pos, same_literal, Store}
+use Rattle.resolvo_store.proofs.Words.{stored_of, truth, undecided, unwrap_or, val, Values, values}
 use Rattle.resolvo_store.proofs.AddingLemmas.{both}
 use Rattle.resolvo_store.proofs.LiteralLaws.{clause_there}
 

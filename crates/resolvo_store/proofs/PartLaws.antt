@@ -1,26 +1,18 @@
 -- What is true of a store's lists stays true of each where it grows or is cut back.
 use Rattle.std.proofs.Common.{◌≡◌, ℕ, ◌+◌, ◌<◌, Bool, true, false, cond, List, [], ◌∷◌, ◌++◌, length, map}
 use Rattle.std.proofs.Common.{Option, None, Some, IsSome, refl, arith, sym, ◌∙◌, ap, subst, zero, suc}
-use Rattle.std.specs.Prelude.{◌==◌, nat_lt, take, slice_get, All, is_some, unwrap_or, flat_map, ◌||◌}
-use Rattle.std.specs.Cmp.{IsEquivalence}
-use Rattle.std.specs.List.{list_any, list_all}
-use Rattle.std.specs.Map.{lookup}
+use Rattle.std.specs.Prelude.{◌==◌, take, slice_get, All, ◌||◌}
 use Rattle.std.proofs.lemmas.Bool.Decides.{nat_tests}
 use Rattle.std.proofs.lemmas.Bool.{eqb-true}
 use Rattle.std.proofs.lemmas.List.Elements.{All-nil, All-cons, All-head, All-tail}
-use Rattle.providers.specs.declared.requirement.Requirement.{Requirement}
-use Rattle.providers.specs.declared.requirement.Requirement.TheVariants.{Single, Union}
-use Rattle.providers.specs.Requirement.{same_requirement}
-use Rattle.variables.specs.declared.variable_origin.VariableOrigin.{VariableOrigin}
-use Rattle.variables.specs.declared.variable_origin.VariableOrigin.TheVariants.{Solvable}
-use Rattle.variables.specs.Variables.{IsRootFirst, is_solvable, variable_of_solvable, interned_variable}
-use Rattle.variables.specs.Variables.{with_variable, with_variables}
+use Rattle.variables.specs.Variables.{with_variable}
 use Rattle.variables.proofs.VariableLemmas.{or_else, position_within, position-append, root-append}
 use Rattle.variables.proofs.InterningLemmas.{variable-kept, kept-all, variable-with_variable}
-use Rattle.decisions.specs.Trail.{Entry, val, entries_until, IsOnce}
-use Rattle.clauses.specs.declared.clause.Clause.{Clause}
+use Rattle.resolvo_store.proofs.Words.{Clause, entries_until, Entry, flat_map, interned_variable, is_solvable, is_some}
+use Rattle.resolvo_store.proofs.Words.{IsEquivalence, IsOnce, IsRootFirst, list_all, list_any, lookup, nat_lt}
+use Rattle.resolvo_store.proofs.Words.{Requirement, requires_from, same_requirement, Single, Solvable, Union, unwrap_or}
+use Rattle.resolvo_store.proofs.Words.{val, variable_of_solvable, VariableOrigin, with_variables}
 use Rattle.clauses.specs.declared.clause.Clause.TheVariants as Kind
-use Rattle.resolvo_store.specs.Sound.{requires_from}
 
 -- ---- lists
 

@@ -2,30 +2,15 @@
 use Rattle.std.proofs.Common.{[], ◌≡◌, ℕ, ◌-◌, true, List, ◌∷◌}
 use Rattle.std.proofs.Common.{map, Option, None, Some, Result, Ok, Err, refl, sym, subst}
 use Rattle.std.proofs.Common.{ap, ◌∙◌, ◌⊎◌, inl, inr}
-use Rattle.std.specs.Prelude.{Bool, false, OnOk, OnErr}
-use Rattle.providers.specs.Provider.{sets_of}
-use Rattle.variables.specs.declared.variable_origin.VariableOrigin.{VariableOrigin}
-use Rattle.decisions.specs.Trail.{Entry, Trail, pushed, AddsEntry}
-use Rattle.decisions.specs.declared.decision_tracker.AddFault.{AddFault}
-use Rattle.clauses.specs.declared.clause.Clause.{Clause}
-use Rattle.clauses.specs.declared.clause.Clause.TheVariants as Kind
-use Rattle.watch_map.specs.ClauseList.{Clauses}
-use Rattle.watch_map.specs.ClauseList.{with_forbidden}
-use Rattle.resolvo_queue.specs.declared.requires_clause.RequiresClause.{RequiresClause}
-use Rattle.resolvo_queue.specs.Queue.{Queue, IsNew}
-use Rattle.resolvo_queue.specs.Queue.{StandsOn}
-use Rattle.resolvo_queue.specs.References.{References}
-use Rattle.resolvo_store.specs.Synced.{MayDecide}
+use Rattle.std.specs.Prelude.{Bool, false}
+use Rattle.resolvo_store.proofs.Words.{AddFault, adds_clause, AddsEntry, BitClause, bumped, Clause, Clauses, Entry}
+use Rattle.resolvo_store.proofs.Words.{forbidding, helper_for, is_direct, IsNew, IsPlain, MayDecide, OnErr, OnOk}
+use Rattle.resolvo_store.proofs.Words.{origins_with, pushed, Queue, References, RequiresClause, sets_of, StandsOn}
+use Rattle.resolvo_store.proofs.Words.{Store, Tracker, tracking, Trail, VariableOrigin, with_bits, with_bumped}
+use Rattle.resolvo_store.proofs.Words.{with_forbidden, with_tracked}
 use Rattle.resolvo_store.proofs.SyncedLemmas.{in_step-new}
-use Rattle.resolvo_store.specs.Sound.{IsPlain}
-use Rattle.resolvo_store.specs.Store.{Store}
-use Rattle.at_most_once.specs.AtMostOne.{Tracker, BitClause}
 use Rattle.at_most_once.specs.NameTrackers.{with_tracked as trackers_with}
-use Rattle.id_maps.specs.Scores.{bumped}
-use Rattle.resolvo_store.specs.Tracking.{forbidding, origins_with}
-use Rattle.resolvo_store.specs.Outcome.{adds_clause, helper_for, tracking, with_bits}
-use Rattle.resolvo_store.specs.Outcome.{with_tracked, with_bumped}
-use Rattle.resolvo_store.specs.Adding.{is_direct}
+use Rattle.clauses.specs.declared.clause.Clause.TheVariants as Kind
 
 -- what comes of success, or of failure
 pub either : {T E P Q : Type 0} (result : Result T E) → OnOk result P → OnErr result Q → P ⊎ Q

@@ -1,9 +1,7 @@
 -- Runs of the abstract store.
 use Rattle.std.proofs.Common.{◌≡◌, List, [], ◌∷◌, ◌++◌, refl, subst}
 use Rattle.std.specs.Prelude.{true, false}
-use Rattle.resolvo_store.specs.Command.{Command, Saturate, Reply, is_saturate}
-use Rattle.resolvo_store.specs.Store.{Store}
-use Rattle.resolvo_store.specs.Step.{HasOutcome, IsAnswered, Step, Run}
+use Rattle.resolvo_store.proofs.Words.{Command, HasOutcome, is_saturate, IsAnswered, Reply, Run, Saturate, Step, Store}
 
 module _ {N S : Type 0} where
   -- a run goes on by a step

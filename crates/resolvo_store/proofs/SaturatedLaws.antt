@@ -1,24 +1,17 @@
 -- What a Saturate answers, and that it leaves a sound store sound. N are the names, S the solvables.
 use Rattle.std.proofs.Common.{◌≡◌, ℕ, ◌<◌, ◌≤◌, ◌^◌, Bool, true, false, not, List, [], ◌∷◌, ◌++◌, length, refl, sym}
 use Rattle.std.proofs.Common.{subst, ◌∙◌, ap, ◌⊎◌, inl, inr, Option, None, Some}
-use Rattle.std.specs.Prelude.{MatchOption}
 use Rattle.std.proofs.lemmas.List.{append-nil, append_assoc}
 use Rattle.std.proofs.lemmas.List.Elements.{All-weaker}
-use Rattle.typed_ids.specs.declared.error.StoreError.{StoreError}
-use Rattle.typed_ids.specs.declared.error.StoreError.TheVariants.{OutOfMemory, LevelOutOfRange}
-use Rattle.decisions.specs.Literals.{Lit}
-use Rattle.decisions.specs.Trail.{Entry, HasLevel}
-use Rattle.watch_map.specs.Watching.{IsExact}
-use Rattle.watch_map.specs.Implication.{IsImplied, AreImplied, decided_literal}
-use Rattle.watch_map.specs.Saturation.{IsRearranged}
 use Rattle.watch_map.proofs.ImplicationLaws.{forced_was_open, forced_is_own}
 use Rattle.watch_map.proofs.ValueLaws.{decided_variable}
-use Rattle.resolvo_store.specs.Command.{Command, Saturate, Reply, Done, Conflict, Refused, IsRefused, is_saturate}
-use Rattle.resolvo_store.specs.Store.{Store, clause_literals, watched_by}
-use Rattle.resolvo_store.specs.Refusals.{is_level, first_refusal}
-use Rattle.resolvo_store.specs.Saturating.{IsSaturated, RefusalLeaves, Saturates}
-use Rattle.resolvo_store.specs.Step.{IsAnswered, Step}
-use Rattle.resolvo_store.specs.Sound.{IsSound, IsVariable, IsAssigned, IsLoaded, IsRegistered}
+use Rattle.resolvo_store.proofs.Words.{AreImplied, clause_literals, Command, Conflict, decided_literal, Done, Entry}
+use Rattle.resolvo_store.proofs.Words.{first_refusal, HasLevel, is_level, is_saturate, IsAnswered, IsAssigned, IsExact}
+use Rattle.resolvo_store.proofs.Words.{IsImplied, IsLoaded, IsRearranged, IsRefused, IsSaturated, IsSound, IsVariable}
+use Rattle.resolvo_store.proofs.Words.{LevelOutOfRange, Lit, MatchOption, OutOfMemory, RefusalLeaves, Refused, Reply}
+use Rattle.resolvo_store.proofs.Words.{Saturate, Saturates, Step, Store, StoreError}
+use Rattle.resolvo_store.specs.Store.{watched_by}
+use Rattle.resolvo_store.specs.Sound.{IsRegistered}
 use Rattle.resolvo_store.proofs.AddingLemmas.{first_of}
 use Rattle.resolvo_store.proofs.LiteralLaws.{clause_there, literal_known}
 use Rattle.resolvo_store.proofs.RunLemmas.{has_outcome}

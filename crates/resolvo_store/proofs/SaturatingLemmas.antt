@@ -3,32 +3,19 @@
 -- S the solvables.
 use Rattle.std.proofs.Common.{◌≡◌, ℕ, ◌<◌, ◌≤◌, ◌^◌, true, not, List, [], ◌∷◌, ◌++◌, length, Option, None, Some}
 use Rattle.std.proofs.Common.{Result, Ok, Err, sym, subst, ap, ◌∙◌}
-use Rattle.std.specs.Prelude.{MatchOption, Bool, IfOk, IfErr}
-use Rattle.std.specs.declared.vec.Vec.{Vec}
-use Rattle.typed_ids.specs.declared.error.StoreError.{StoreError}
-use Rattle.typed_ids.specs.declared.error.StoreError.TheVariants.{OutOfMemory, LevelOutOfRange}
-use Rattle.providers.specs.declared.requirement.Requirement.{Requirement}
-use Rattle.decisions.specs.Literals.{Lit}
-use Rattle.decisions.specs.Trail.{Entry, Trail, val}
+use Rattle.std.specs.Prelude.{Bool}
 use Rattle.clauses.specs.declared.disjunction.Disjunction.{Disjunction}
-use Rattle.watch_map.specs.ClauseList.{Clauses, IsClauseList}
-use Rattle.watch_map.specs.ClauseList as in_list
-use Rattle.watch_map.specs.Implication.{AreImplied, AreSettled, IsConflict}
-use Rattle.watch_map.specs.Saturation.{HasImplied, IsRearranged}
-use Rattle.solver_cache.specs.Cache.{Cache}
-use Rattle.resolvo_queue.specs.Queue.{Queue}
-use Rattle.resolvo_store.specs.Command.{Saturate, Reply, Refused}
-use Rattle.resolvo_store.specs.Store.{Store, clause_literals, watched_by}
-use Rattle.resolvo_store.specs.Lists.{IsConsistent}
-use Rattle.resolvo_store.specs.Refusals.{is_level}
-use Rattle.resolvo_store.specs.Saturating.{IsSaturated, Saturates}
-use Rattle.resolvo_store.specs.Answers.{conflict, replied}
-use Rattle.resolvo_store.specs.Step.{Step}
-use Rattle.resolvo_store.specs.Sound.{IsSound}
+use Rattle.resolvo_store.proofs.Words.{AreImplied, AreSettled, Cache, clause_literals, Clauses, conflict, Entry}
+use Rattle.resolvo_store.proofs.Words.{HasImplied, IfErr, IfOk, is_level, IsClauseList, IsConflict, IsConsistent}
+use Rattle.resolvo_store.proofs.Words.{IsRearranged, IsSaturated, IsSound, LevelOutOfRange, Lit, MatchOption}
+use Rattle.resolvo_store.proofs.Words.{OutOfMemory, Queue, Refused, replied, Reply, Requirement, Saturate, Saturates}
+use Rattle.resolvo_store.proofs.Words.{Step, Store, StoreError, Trail, val, Vec}
+use Rattle.resolvo_store.specs.Store.{watched_by}
 use Rattle.resolvo_store.proofs.AddingLemmas.{first_of}
 use Rattle.resolvo_store.proofs.PartOutcomes.{with_list}
 use Rattle.resolvo_store.proofs.SaturatedLaws.{IsSound-saturated}
 use Rattle.resolvo_store.proofs.SyncedLemmas.{in_step-implied}
+use Rattle.watch_map.specs.ClauseList as in_list
 
 module _ {N S : Type 0} (st : Store N S) where
   -- and at one that is

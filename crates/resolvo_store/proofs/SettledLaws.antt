@@ -2,33 +2,23 @@
 -- solvables.
 use Rattle.std.proofs.Common.{◌≡◌, ℕ, zero, suc, ◌+◌, ◌<◌, ◌≤◌, Bool, true, false, cond, List, [], ◌∷◌, length, map}
 use Rattle.std.proofs.Common.{Option, Some, None, refl, sym, ap, subst, ◌∙◌, arith}
-use Rattle.std.specs.Prelude.{All, not, ◌&&◌, ◌==◌, slice_get, find, flat_map, option_map, unwrap_or}
-use Rattle.std.specs.List.{list_all}
-use Rattle.std.specs.Map.{lookup}
+use Rattle.std.specs.Prelude.{All, not, ◌&&◌, ◌==◌, slice_get, option_map}
 use Rattle.std.proofs.lemmas.List.Elements.{All-nil, All-cons, All-head, All-tail, All-append, All-filter, All-weaker}
 use Rattle.std.proofs.lemmas.List.Folds.{list_all-append, list_all-map}
 use Rattle.std.proofs.lemmas.Option.{slice_get_within}
-use Rattle.typed_ids.specs.declared.version_set_id.VersionSetId.{VersionSetId}
-use Rattle.providers.specs.declared.requirement.Requirement.{Requirement}
-use Rattle.providers.specs.Requirement.{same_requirement}
-use Rattle.providers.specs.Provider.{sets_of}
-use Rattle.decisions.specs.Literals.{Lit, Pos, Neg, Values, truth, undecided, known_true, known_false, is_false_literal}
-use Rattle.clauses.specs.declared.clause.Clause.{Clause}
-use Rattle.clauses.specs.declared.clause.Clause.TheVariants as Kind
-use Rattle.clauses.specs.Clauses.{literals_of, other_literals}
-use Rattle.watch_map.specs.Implication.{is_false, are_others_false, is_unit, IsSettled}
-use Rattle.watch_map.specs.Watching.{is_literal_in}
 use Rattle.watch_map.proofs.LiteralLists.{all_at}
-use Rattle.resolvo_queue.specs.declared.requires_clause.RequiresClause.{RequiresClause}
-use Rattle.resolvo_queue.specs.Rows.{Row, list_rows, rows, all_false}
-use Rattle.resolvo_queue.specs.Scan.{parents, clauses_of, scan, are_literals_false, is_falsified}
 use Rattle.resolvo_queue.proofs.Falsified.First.{falsified_by}
 use Rattle.resolvo_queue.proofs.Rows.Occurrences.{same_is}
-use Rattle.resolvo_store.specs.Store.{Store, values, lists_of, stored_of, clause_literals, condition_of, rows_of}
-use Rattle.resolvo_store.specs.Saturating.{HasSettled}
-use Rattle.resolvo_store.specs.Outcome.{falsified_clause}
-use Rattle.resolvo_store.specs.Sound.{IsSound, IsLoaded, requires_from}
+use Rattle.resolvo_store.proofs.Words.{all_false, are_literals_false, are_others_false, Clause, clause_literals}
+use Rattle.resolvo_store.proofs.Words.{clauses_of, condition_of, falsified_clause, find, flat_map, HasSettled, is_false}
+use Rattle.resolvo_store.proofs.Words.{is_false_literal, is_falsified, is_literal_in, is_unit, IsLoaded, IsSettled}
+use Rattle.resolvo_store.proofs.Words.{IsSound, known_false, known_true, list_all, list_rows, lists_of, Lit}
+use Rattle.resolvo_store.proofs.Words.{literals_of, lookup, Neg, other_literals, parents, Pos, Requirement}
+use Rattle.resolvo_store.proofs.Words.{requires_from, RequiresClause, Row, rows, rows_of, same_requirement, scan}
+use Rattle.resolvo_store.proofs.Words.{sets_of, Store, stored_of, truth, undecided, unwrap_or, Values, values}
+use Rattle.resolvo_store.proofs.Words.{VersionSetId}
 use Rattle.resolvo_store.proofs.AddingLemmas.{both, failed}
+use Rattle.clauses.specs.declared.clause.Clause.TheVariants as Kind
 
 -- ---- lists
 

@@ -1,26 +1,21 @@
 -- A sound store stays sound where it has more in it, or less.
 use Rattle.std.proofs.Common.{◌≡◌, ℕ, true, List, [], ◌∷◌, ◌++◌, length, map, Option, None, Some, IsSome, false, refl}
-use Rattle.std.specs.Prelude.{◌<◌, slice_get, All, IfSome, flat_map}
-use Rattle.providers.specs.declared.requirement.Requirement.{Requirement}
-use Rattle.providers.specs.Provider.{knows_requirement, sets_of}
-use Rattle.variables.specs.Variables.{with_variable, interned_variable, with_variables}
-use Rattle.decisions.specs.Literals.{Lit}
-use Rattle.decisions.specs.Trail.{Entry, propagated, entries_until, HasLevel}
-use Rattle.clauses.specs.ClauseTexts.{IsKnownClause}
-use Rattle.clauses.specs.declared.clause.Clause.{Clause}
-use Rattle.clauses.specs.declared.clause.Clause.TheVariants as Kind
-use Rattle.watch_map.specs.Watching.{is_literal_in}
-use Rattle.resolvo_store.specs.declared.helper_origin.HelperOrigin.{HelperOrigin}
-use Rattle.resolvo_store.specs.Store.{Store, values, lists_of, clause_literals, watched_by}
-use Rattle.resolvo_store.specs.Refusals.{knows_helper}
-use Rattle.resolvo_store.specs.Outcome.{assigned, without_newest, helper_origin, cut_back, hands_next, adds_clause}
-use Rattle.resolvo_store.specs.Outcome.{with_disjunction, with_learnt, with_registered, with_rewatched}
-use Rattle.resolvo_store.specs.Sound.{IsSound, IsPlain, IsVariable, AreLiterals, IsAssigned}
+use Rattle.std.specs.Prelude.{◌<◌, slice_get, All}
+use Rattle.variables.specs.Variables.{with_variable}
+use Rattle.resolvo_store.proofs.Words.{adds_clause, AreLiterals, assigned, Clause, clause_literals, cut_back}
+use Rattle.resolvo_store.proofs.Words.{entries_until, Entry, flat_map, hands_next, HasLevel, helper_origin}
+use Rattle.resolvo_store.proofs.Words.{HelperOrigin, IfSome, interned_variable, is_literal_in, IsAssigned}
+use Rattle.resolvo_store.proofs.Words.{IsKnownClause, IsPlain, IsSound, IsVariable, knows_helper, knows_requirement}
+use Rattle.resolvo_store.proofs.Words.{lists_of, Lit, propagated, Requirement, sets_of, Store, values, with_disjunction}
+use Rattle.resolvo_store.proofs.Words.{with_registered, with_variables, without_newest}
+use Rattle.resolvo_store.specs.Store.{watched_by}
+use Rattle.resolvo_store.specs.Outcome.{with_learnt, with_rewatched}
 use Rattle.resolvo_store.proofs.KnownLemmas.{IsKnownSolvable, IsLawful}
-use Rattle.resolvo_store.proofs.StoredLaws as stored
-use Rattle.resolvo_store.proofs.InternedLaws as interned
 use Rattle.resolvo_store.proofs.StoredStores.{IsStored, IsStored-sound, IsSound-stored}
 use Rattle.resolvo_store.proofs.TrackingLaws.{AreTracked-clause, AreTracked-origin, AreTracked-variables}
+use Rattle.clauses.specs.declared.clause.Clause.TheVariants as Kind
+use Rattle.resolvo_store.proofs.StoredLaws as stored
+use Rattle.resolvo_store.proofs.InternedLaws as interned
 
 module _ {N S : Type 0} (st : Store N S) (sound : IsSound st) where
   pub IsSound-scored : (scores : N → ℕ) → IsSound (record st { scores = scores })

@@ -1,36 +1,25 @@
 -- Steps and runs lead from sound stores to sound ones, and a new store is sound.
 use Rattle.std.proofs.Common.{◌≡◌, ℕ, ◌<◌, ◌≤◌, Bool, true, false, cond, List, [], ◌∷◌, length, Option, None, Some}
 use Rattle.std.proofs.Common.{IsSome, refl, arith, sym, ◌∙◌, ap, subst, zero, suc, ◌⊎◌, inl, inr}
-use Rattle.std.specs.Prelude.{◌^◌, ⊤, nat_eq, slice_get, is_none, find, option_map, MatchOption, ◌&&◌, not}
-use Rattle.std.specs.List.{IsDistinct, list_all}
+use Rattle.std.specs.Prelude.{◌^◌, nat_eq, slice_get, option_map, ◌&&◌, not}
 use Rattle.std.proofs.lemmas.Bool.Decides.{nat_tests}
 use Rattle.std.proofs.lemmas.List.Elements.{All-nil, All-cons}
-use Rattle.typed_ids.specs.declared.error.StoreError.{StoreError}
-use Rattle.providers.specs.Requirement.{same_requirement}
-use Rattle.providers.specs.Provider.{Universe, knows_requirement, sets_of}
 use Rattle.variables.specs.declared.variable_origin.VariableOrigin.TheVariants.{Root as RootOrigin}
-use Rattle.decisions.specs.Trail.{Entry, HasLevel}
-use Rattle.watch_map.specs.Watching.{is_literal_in}
-use Rattle.clauses.specs.ClauseTexts.{IsKnownClause}
-use Rattle.clauses.specs.declared.clause.Clause.TheVariants as Kind
-use Rattle.resolvo_store.specs.Command.{Command, Variable, Helper, Load, Requires, Root, Constrains}
-use Rattle.resolvo_store.specs.Command.{ConstrainsExcluded, ConstrainsParent, Lock, Exclude, AnyOf, Learnt, Assign}
-use Rattle.resolvo_store.specs.Command.{UndoLast, UndoUntil, Unpropagated, Rewatch, Watchers, Saturate, Decide}
-use Rattle.resolvo_store.specs.Command.{Disjunction, AtMostOnce, Bump, Decay, Standard, Reply, TrackedAs, Refused}
-use Rattle.resolvo_store.specs.Command.{is_saturate}
-use Rattle.resolvo_store.specs.Store.{Store, Provider, StoredDisjunction, new_store, lists_of, clause_literals}
-use Rattle.resolvo_store.specs.Store.{watched_by, candidates_of}
-use Rattle.resolvo_store.specs.Refusals.{knows_variable, knows_literal, knows_disjunction, is_level, may_rewatch}
-use Rattle.resolvo_store.specs.Refusals.{refusals, first_refusal}
-use Rattle.resolvo_store.specs.Outcome.{Outcome, outcome, load, hands_next, adds_clause, tracking, with_bits}
-use Rattle.resolvo_store.specs.Outcome.{with_tracked}
-use Rattle.resolvo_store.specs.Saturating.{IsSaturated}
-use Rattle.resolvo_store.specs.Step.{HasOutcome, IsAnswered, Step, Run}
-use Rattle.at_most_once.specs.AtMostOne as tracking_of
-use Rattle.at_most_once.specs.AtMostOne.{BitClause, is_tracked}
-use Rattle.id_maps.specs.Scores.{bumped, decayed}
-use Rattle.resolvo_store.specs.Tracking.{is_helper_among, forbidding}
-use Rattle.resolvo_store.specs.Sound.{IsSound, AreLiterals, IsLoaded, IsRegistered, IsAssigned, HasOneVariableEach}
+use Rattle.resolvo_store.proofs.Words.{adds_clause, AnyOf, AreLiterals, Assign, AtMostOnce, BitClause, Bump, bumped}
+use Rattle.resolvo_store.proofs.Words.{candidates_of, clause_literals, Command, Constrains, ConstrainsExcluded}
+use Rattle.resolvo_store.proofs.Words.{ConstrainsParent, Decay, decayed, Decide, Entry, Exclude, find, first_refusal}
+use Rattle.resolvo_store.proofs.Words.{forbidding, hands_next, HasLevel, HasOneVariableEach, HasOutcome, Helper}
+use Rattle.resolvo_store.proofs.Words.{is_helper_among, is_level, is_literal_in, is_none, is_saturate, is_tracked}
+use Rattle.resolvo_store.proofs.Words.{IsAnswered, IsAssigned, IsDistinct, IsKnownClause, IsLoaded, IsSaturated}
+use Rattle.resolvo_store.proofs.Words.{IsSound, knows_disjunction, knows_literal, knows_requirement, knows_variable}
+use Rattle.resolvo_store.proofs.Words.{Learnt, list_all, lists_of, Load, load, Lock, MatchOption, may_rewatch}
+use Rattle.resolvo_store.proofs.Words.{new_store, Outcome, outcome, refusals, Refused, Reply, Requires, Rewatch, Run}
+use Rattle.resolvo_store.proofs.Words.{same_requirement, Saturate, sets_of, Standard, Step, Store, StoredDisjunction}
+use Rattle.resolvo_store.proofs.Words.{StoreError, TrackedAs, tracking, UndoLast, UndoUntil, Universe, Unpropagated}
+use Rattle.resolvo_store.proofs.Words.{Variable, Watchers, with_bits, with_tracked, ⊤}
+use Rattle.resolvo_store.specs.Command.{Root, Disjunction}
+use Rattle.resolvo_store.specs.Store.{Provider, watched_by}
+use Rattle.resolvo_store.specs.Sound.{IsRegistered}
 use Rattle.resolvo_store.proofs.AddingLemmas.{both, failed, disjunction_known}
 use Rattle.resolvo_store.proofs.RunLemmas.{has_outcome}
 use Rattle.resolvo_store.proofs.SaturatedLaws.{saturated_so_far, saturate_answered, IsSound-saturated}
@@ -40,6 +29,8 @@ use Rattle.resolvo_store.proofs.SoundLaws.{IsSound-rewatched, IsSound-assigned, 
 use Rattle.resolvo_store.proofs.SoundLaws.{IsSound-entries_until, IsSound-hands_next}
 use Rattle.resolvo_store.proofs.TrackedLaws.{IsSound-tracked}
 use Rattle.resolvo_store.proofs.KnownLemmas.{IsKnownOrigin, IsLawful, known_direct, literals_below, all_known}
+use Rattle.clauses.specs.declared.clause.Clause.TheVariants as Kind
+use Rattle.at_most_once.specs.AtMostOne as tracking_of
 
 -- ---- refusals
 

@@ -1,38 +1,26 @@
 -- What is true of a store, but for what is tracked, stays true where it has more in it, or less.
 use Rattle.std.proofs.Common.{[], ◌≡◌, ℕ, ◌+◌, ◌<◌, ◌≤◌, Bool, true, false, cond, List, ◌∷◌, ◌++◌, length}
 use Rattle.std.proofs.Common.{length-append, map, Option, None, Some, IsSome, refl, arith, sym, ◌∙◌, ap, subst}
-use Rattle.std.specs.Prelude.{IfSome, ◌-◌, min, take, slice_get, All, is_some}
+use Rattle.std.specs.Prelude.{◌-◌, min, take, slice_get, All}
 use Rattle.std.proofs.lemmas.List.{length-set, map-append, append-nil}
 use Rattle.std.proofs.lemmas.List.Elements.{All-nil, All-cons, All-push, All-take, All-append, All-weaker}
 use Rattle.std.proofs.lemmas.Option.{slice_get_within}
 use Rattle.std.proofs.lemmas.Map.Keys.{IsDistinct-push}
-use Rattle.providers.specs.declared.requirement.Requirement.{Requirement}
-use Rattle.providers.specs.Provider.{knows_requirement}
-use Rattle.variables.specs.declared.variable_origin.VariableOrigin.{VariableOrigin}
-use Rattle.variables.specs.declared.variable_origin.VariableOrigin.TheVariants.{Solvable}
-use Rattle.variables.specs.Variables.{variable_of_solvable}
 use Rattle.variables.proofs.VariableLemmas.{root-append}
 use Rattle.variables.proofs.InterningLemmas.{variable-kept}
-use Rattle.decisions.specs.Trail.{Entry, propagated, entries_until, IsTrail, HasLevel}
 use Rattle.decisions.proofs.TrailLemmas.{IsTrail-push}
-use Rattle.resolvo_queue.specs.declared.requires_clause.RequiresClause.{RequiresClause}
-use Rattle.at_most_once.specs.AtMostOne.{Tracker}
-use Rattle.resolvo_store.specs.declared.helper_origin.HelperOrigin.{HelperOrigin}
-use Rattle.resolvo_store.specs.declared.helper_origin.HelperOrigin.TheVariants as Helps
-use Rattle.decisions.specs.Literals.{Lit, variable_of}
-use Rattle.clauses.specs.Clauses.{literals_of, learnt_literals, first_watches}
-use Rattle.watch_map.specs.Watching.{is_literal_in, IsExact, started}
-use Rattle.watch_map.specs.ClauseList.{two_or_none, rewatched}
 use Rattle.watch_map.proofs.ListCallerLaws.{watched_at, watching_within, exact_pushed, exact_rewatched}
-use Rattle.clauses.specs.ClauseTexts.{IsKnownClause}
-use Rattle.clauses.specs.declared.clause.Clause.{Clause}
-use Rattle.clauses.specs.declared.clause.Clause.TheVariants as Kind
-use Rattle.resolvo_store.specs.Store.{Store, values, lists_of, stored_of, clause_literals, watched_by}
-use Rattle.resolvo_store.specs.Refusals.{knows_helper}
-use Rattle.resolvo_store.specs.Outcome.{assigned, without_newest, helper_origin, cut_back, hands_next, adds_clause}
-use Rattle.resolvo_store.specs.Outcome.{with_disjunction, with_learnt, with_registered, with_rewatched}
-use Rattle.resolvo_store.specs.Sound.{requires_from, IsVariable, AreLiterals}
-use Rattle.resolvo_store.specs.Sound.{IsLoaded, IsRegistered, IsAssigned}
+use Rattle.resolvo_store.proofs.Words.{adds_clause, AreLiterals, assigned, Clause, clause_literals, cut_back}
+use Rattle.resolvo_store.proofs.Words.{entries_until, Entry, first_watches, hands_next, HasLevel, helper_origin}
+use Rattle.resolvo_store.proofs.Words.{HelperOrigin, IfSome, is_literal_in, is_some, IsAssigned, IsExact, IsKnownClause}
+use Rattle.resolvo_store.proofs.Words.{IsLoaded, IsTrail, IsVariable, knows_helper, knows_requirement, learnt_literals}
+use Rattle.resolvo_store.proofs.Words.{lists_of, Lit, literals_of, propagated, Requirement, requires_from}
+use Rattle.resolvo_store.proofs.Words.{RequiresClause, rewatched, Solvable, started, Store, stored_of, Tracker}
+use Rattle.resolvo_store.proofs.Words.{two_or_none, values, variable_of, variable_of_solvable, VariableOrigin}
+use Rattle.resolvo_store.proofs.Words.{with_disjunction, with_registered, without_newest}
+use Rattle.resolvo_store.specs.Store.{watched_by}
+use Rattle.resolvo_store.specs.Outcome.{with_learnt, with_rewatched}
+use Rattle.resolvo_store.specs.Sound.{IsRegistered}
 use Rattle.resolvo_store.proofs.KnownLemmas.{IsKnownOrigin, variable_known, clause_kept}
 use Rattle.resolvo_store.proofs.WatchLaws.{first_watches_own, theirs_grown, theirs_pushed}
 use Rattle.resolvo_store.proofs.WatchLaws.{theirs_rewatched, found_before, asked_before, lists_before}
@@ -41,6 +29,8 @@ use Rattle.resolvo_store.proofs.PartLaws.{slice_get-push_cases, same_requirement
 use Rattle.resolvo_store.proofs.PartLaws.{found-push, requires_from-push, AreVariables}
 use Rattle.resolvo_store.proofs.PartLaws.{All-entries_until, IsOnce-entries_until, IsOnce-take}
 use Rattle.resolvo_store.proofs.StoredStores.{IsUnregistered, IsStored}
+use Rattle.resolvo_store.specs.declared.helper_origin.HelperOrigin.TheVariants as Helps
+use Rattle.clauses.specs.declared.clause.Clause.TheVariants as Kind
 
 module _ {N S : Type 0} (st : Store N S) (sound : IsStored st) where
   -- more variables, and other trackers

@@ -2,17 +2,11 @@
 use Rattle.std.proofs.Common.{[], ◌≡◌, ℕ, ◌≤◌, ◌∷◌, length}
 use Rattle.std.proofs.Common.{map}
 use Rattle.std.specs.Prelude.{◌-◌, All}
-use Rattle.std.specs.List.{IsDistinct}
-use Rattle.providers.specs.Requirement.{same_requirement}
-use Rattle.variables.specs.Variables.{IsRootFirst}
-use Rattle.decisions.specs.Trail.{IsTrail}
-use Rattle.watch_map.specs.Watching.{IsExact}
-use Rattle.clauses.specs.ClauseTexts.{IsKnownClause}
-use Rattle.clauses.specs.declared.clause.Clause.{Clause}
-use Rattle.resolvo_store.specs.Store.{Store, watched_by}
-use Rattle.resolvo_store.specs.Outcome.{assigned}
-use Rattle.resolvo_store.specs.Sound.{IsSound, requires_from, HasOneVariableEach, WatchOwn, AreLiterals}
-use Rattle.resolvo_store.specs.Sound.{IsLoaded, IsRegistered, IsAssigned}
+use Rattle.resolvo_store.proofs.Words.{AreLiterals, assigned, Clause, HasOneVariableEach, IsAssigned, IsDistinct}
+use Rattle.resolvo_store.proofs.Words.{IsExact, IsKnownClause, IsLoaded, IsRootFirst, IsSound, IsTrail, requires_from}
+use Rattle.resolvo_store.proofs.Words.{same_requirement, Store}
+use Rattle.resolvo_store.specs.Store.{watched_by}
+use Rattle.resolvo_store.specs.Sound.{WatchOwn, IsRegistered}
 use Rattle.resolvo_store.proofs.TrackingLaws.{AreTracked}
 use Rattle.resolvo_store.proofs.KnownLemmas.{IsKnownOrigin}
 

@@ -1,18 +1,14 @@
 -- A queue stays in step with a trail, whatever is done with either. N are the names of packages, H the sets of them.
 use Rattle.std.proofs.Common.{◌≡◌, ℕ, zero, suc, ◌≤◌, Bool, true, false, cond, List, [], ◌∷◌, ◌++◌, length, refl}
 use Rattle.std.proofs.Common.{arith, sym, subst, ap, ◌∙◌}
-use Rattle.std.specs.Prelude.{◌-◌, min, take, nat_lt}
-use Rattle.std.specs.List.{list_all}
+use Rattle.std.specs.Prelude.{◌-◌, min, take}
 use Rattle.std.proofs.lemmas.List.{length-map, length-append, take-append-le, take-map, map-append, append-nil}
 use Rattle.std.proofs.lemmas.List.{append_assoc}
-use Rattle.decisions.specs.Literals.{Lit}
-use Rattle.decisions.specs.Trail.{Entry, Trail, pushed, cut_to, undo_last, undo_until, entries_until, propagated}
-use Rattle.decisions.specs.Trail.{floor_taken}
-use Rattle.decisions.specs.declared.decision.Decision.{Decision}
-use Rattle.watch_map.specs.Saturation.{HasImplied}
-use Rattle.resolvo_queue.specs.Queue.{Queue, IsNew, SameSync, IsUnchanged, IsRegistered, HasTrail, AgreesBelow}
-use Rattle.resolvo_queue.specs.declared.requires_clause.RequiresClause.{RequiresClause}
-use Rattle.resolvo_store.specs.Synced.{decisions_of, IsInStep}
+use Rattle.resolvo_queue.specs.Queue.{IsRegistered}
+use Rattle.resolvo_store.proofs.Words.{AgreesBelow, cut_to, Decision, decisions_of, entries_until, Entry, floor_taken}
+use Rattle.resolvo_store.proofs.Words.{HasImplied, HasTrail, IsInStep, IsNew, IsUnchanged, list_all, Lit, nat_lt}
+use Rattle.resolvo_store.proofs.Words.{propagated, pushed, Queue, RequiresClause, SameSync, Trail, undo_last}
+use Rattle.resolvo_store.proofs.Words.{undo_until}
 
 -- ---- fronts of lists
 

@@ -1,28 +1,23 @@
 -- A store that tracks one variable more is sound. N are the names, S the solvables.
 use Rattle.std.proofs.Common.{◌≡◌, ℕ, zero, suc, ◌+◌, ◌<◌, Bool, true, false, not, List, [], ◌∷◌, ◌++◌, length}
 use Rattle.std.proofs.Common.{length-append, map, Option, Some, None, refl, arith, sym, subst, ap, ◌∙◌}
-use Rattle.std.specs.Prelude.{nat_eq, flat_map, All, if◌then◌else◌, ◌&&◌, ◌||◌, IfSome, is_some}
-use Rattle.std.specs.List.{list_any, enumerate_from}
+use Rattle.std.specs.Prelude.{nat_eq, All, if◌then◌else◌, ◌&&◌, ◌||◌}
 use Rattle.std.proofs.lemmas.Bool.{eqb-true}
 use Rattle.std.proofs.lemmas.Grind.{flat_map-append}
 use Rattle.std.proofs.lemmas.List.{append-nil, append_assoc}
 use Rattle.std.proofs.lemmas.List.Elements.{All-nil, All-cons, All-head, All-tail, All-push, All-append, All-weaker}
-use Rattle.variables.specs.declared.variable_origin.VariableOrigin.{VariableOrigin}
-use Rattle.variables.specs.declared.variable_origin.VariableOrigin.TheVariants.{ForbidMultiple}
-use Rattle.clauses.specs.ClauseTexts.{IsKnownClause}
-use Rattle.at_most_once.specs.AtMostOne.{Tracker, BitClause, IsAllowed, IsFresh, is_tracked, needs_helper, is_full}
-use Rattle.at_most_once.specs.AtMostOne.{has_bit, helper_clauses, variable_clauses, new_clauses, with_new}
 use Rattle.at_most_once.specs.AtMostOne.{with_variable}
 use Rattle.at_most_once.specs.NameTrackers.{with_tracked as trackers_with}
 use Rattle.at_most_once.proofs.CallerLaws.{adds_new}
-use Rattle.resolvo_store.specs.Store.{Store, bits}
-use Rattle.resolvo_store.specs.Tracking.{is_helper_among, forbidding, origins_with, bits_of, IsTracking}
-use Rattle.resolvo_store.specs.Outcome.{adds_clause, helper_for, with_bits, with_tracked}
-use Rattle.resolvo_store.specs.Sound.{IsSound}
+use Rattle.resolvo_store.proofs.Words.{adds_clause, BitClause, bits, bits_of, enumerate_from, flat_map, forbidding}
+use Rattle.resolvo_store.proofs.Words.{ForbidMultiple, has_bit, helper_clauses, helper_for, IfSome, is_full}
+use Rattle.resolvo_store.proofs.Words.{is_helper_among, is_some, is_tracked, IsAllowed, IsFresh, IsKnownClause, IsSound}
+use Rattle.resolvo_store.proofs.Words.{IsTracking, list_any, needs_helper, new_clauses, origins_with, Store, Tracker}
+use Rattle.resolvo_store.proofs.Words.{variable_clauses, VariableOrigin, with_bits, with_new, with_tracked}
 use Rattle.resolvo_store.proofs.KnownLemmas.{IsLawful, variable_known}
-use Rattle.resolvo_store.proofs.StoredLaws as stored
 use Rattle.resolvo_store.proofs.StoredStores.{IsStored, IsStored-sound, IsSound-stored}
 use Rattle.resolvo_store.proofs.TrackingLaws.{AreTracked, IsTracking-origin}
+use Rattle.resolvo_store.proofs.StoredLaws as stored
 
 -- ---- the clauses of one variable more
 

@@ -1,17 +1,13 @@
 -- What is tracked stays so as a store grows. N are the names, S the solvables.
 use Rattle.std.proofs.Common.{◌≡◌, ℕ, zero, suc, ◌<◌, Bool, true, false, List, [], ◌∷◌, ◌++◌, length, length-append}
 use Rattle.std.proofs.Common.{arith, sym, subst, ap, ◌∙◌}
-use Rattle.std.specs.Prelude.{is_some, flat_map, if◌then◌else◌}
+use Rattle.std.specs.Prelude.{if◌then◌else◌}
 use Rattle.std.proofs.lemmas.Grind.{flat_map-append}
 use Rattle.std.proofs.lemmas.List.{append-nil}
 use Rattle.std.proofs.lemmas.List.Elements.{All-weaker}
-use Rattle.variables.specs.declared.variable_origin.VariableOrigin.{VariableOrigin}
-use Rattle.variables.specs.declared.variable_origin.VariableOrigin.TheVariants.{Solvable}
-use Rattle.variables.specs.Variables.{variable_of_solvable, with_variable, with_variables}
-use Rattle.clauses.specs.declared.clause.Clause.{Clause}
-use Rattle.at_most_once.specs.AtMostOne.{Tracker, BitClause}
-use Rattle.resolvo_store.specs.Store.{Store, bits}
-use Rattle.resolvo_store.specs.Tracking.{is_helper_among, bits_of, IsTracking}
+use Rattle.variables.specs.Variables.{with_variable}
+use Rattle.resolvo_store.proofs.Words.{BitClause, bits, bits_of, Clause, flat_map, is_helper_among, is_some, IsTracking}
+use Rattle.resolvo_store.proofs.Words.{Solvable, Store, Tracker, variable_of_solvable, VariableOrigin, with_variables}
 
 module _ {N S : Type 0} where
   -- what is tracked under each name is in order

@@ -1,20 +1,13 @@
 -- Tracking a variable: what its parts answer makes a step. N are the names, S the solvables.
 use Rattle.std.proofs.Common.{◌≡◌, ℕ, Bool, true, false, cond, not, length, None, Result, Ok, Err, refl, sym, subst}
 use Rattle.std.proofs.Common.{ap, ◌∙◌}
-use Rattle.std.specs.Prelude.{[], ◌&&◌, ◌||◌, ◌==◌, nat_eq, MatchOption, IfOk, OnOk, OnErr, IfErr}
-use Rattle.typed_ids.specs.Refusals.{IsGrowthRefusal}
-use Rattle.typed_ids.specs.declared.error.StoreError.{StoreError}
-use Rattle.typed_ids.specs.declared.error.StoreError.TheVariants.{OutOfMemory, IdSpace, UnknownId}
-use Rattle.at_most_once.specs.AtMostOne.{is_tracked}
-use Rattle.at_most_once.specs.NameTrackers.{lacks_tracker}
-use Rattle.resolvo_store.specs.declared.answers.Tracked.{Tracked}
-use Rattle.resolvo_store.specs.Answers.{replied, tracked as told}
-use Rattle.resolvo_store.specs.Command.{Command, AtMostOnce, Reply, TrackedAs, Refused}
-use Rattle.resolvo_store.specs.Store.{Store}
-use Rattle.resolvo_store.specs.Tracking.{is_helper_among, lacks_more}
-use Rattle.resolvo_store.specs.Refusals.{first_refusal, knows_variable}
-use Rattle.resolvo_store.specs.Outcome.{Outcome, outcome, helper_for, tracking, with_tracked}
-use Rattle.resolvo_store.specs.Step.{Step, IsAnswered, may_be_refused}
+use Rattle.std.specs.Prelude.{[], ◌&&◌, ◌||◌, ◌==◌, nat_eq}
+use Rattle.resolvo_store.proofs.Words.{AtMostOnce, Command, first_refusal, helper_for, IdSpace, IfErr, IfOk}
+use Rattle.resolvo_store.proofs.Words.{is_helper_among, is_tracked, IsAnswered, IsGrowthRefusal, knows_variable}
+use Rattle.resolvo_store.proofs.Words.{lacks_more, lacks_tracker, MatchOption, may_be_refused, OnErr, OnOk, Outcome}
+use Rattle.resolvo_store.proofs.Words.{outcome, OutOfMemory, Refused, replied, Reply, Step, Store, StoreError, Tracked}
+use Rattle.resolvo_store.proofs.Words.{TrackedAs, tracking, UnknownId, with_tracked}
+use Rattle.resolvo_store.specs.Answers.{tracked as told}
 use Rattle.resolvo_store.proofs.AddingLemmas.{none_yet}
 
 -- of three tests one holds, in whatever order they are asked

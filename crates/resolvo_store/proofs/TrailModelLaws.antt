@@ -3,29 +3,19 @@
 -- are the names, S the solvables.
 use Rattle.std.proofs.Common.{◌≡◌, ℕ, suc, ◌+◌, ◌<◌, Bool, true, false, not, List, [], ◌∷◌, ◌++◌, length, map, Option}
 use Rattle.std.proofs.Common.{Some, None, refl, sym, ap, subst, ◌∙◌, arith}
-use Rattle.std.specs.Prelude.{All, ◌&&◌, ◌||◌, slice_get, flat_map, option_map, unwrap_or}
-use Rattle.std.specs.List.{list_any, list_all}
+use Rattle.std.specs.Prelude.{All, ◌&&◌, ◌||◌, slice_get, option_map}
 use Rattle.std.proofs.lemmas.List.Folds.{list_any-append}
 use Rattle.std.proofs.lemmas.List.Elements.{All-nil, All-cons, All-head, All-tail}
-use Rattle.typed_ids.specs.declared.version_set_id.VersionSetId.{VersionSetId}
-use Rattle.providers.specs.Provider.{sets_of}
-use Rattle.decisions.specs.Literals.{Lit, Pos, Neg, Values, truth, undecided, known_true, known_false, is_false_literal}
-use Rattle.clauses.specs.declared.clause.Clause.{Clause}
-use Rattle.clauses.specs.declared.clause.Clause.TheVariants as Kind
-use Rattle.clauses.specs.Clauses.{same_literal, literals_of}
-use Rattle.watch_map.specs.Implication.{is_false, are_others_false, IsSettled}
-use Rattle.watch_map.specs.Watching.{is_literal_in}
 use Rattle.watch_map.proofs.LiteralLists.{any_at}
 use Rattle.watch_map.proofs.WatchingLaws.{same_is, same_self}
-use Rattle.resolvo_queue.specs.declared.requires_clause.RequiresClause.{RequiresClause}
-use Rattle.resolvo_queue.specs.Rows.{list_rows, rows, has_true_row}
-use Rattle.resolvo_queue.specs.Scan.{are_literals_false}
-use Rattle.resolvo_store.specs.Store.{Store, values, lists_of, stored_of, condition_of, rows_of}
-use Rattle.resolvo_store.specs.ForbidsTwo.{is_true_literal, is_satisfied}
-use Rattle.resolvo_store.specs.Models.{IsModel, true_alone, is_negation, MayLeaveFalse}
-use Rattle.resolvo_store.specs.Saturating.{HasSettled}
-use Rattle.resolvo_store.specs.Solved.{IsSolved}
-use Rattle.resolvo_store.specs.Sound.{IsSound, requires_from}
+use Rattle.resolvo_store.proofs.Words.{are_literals_false, are_others_false, Clause, condition_of, flat_map}
+use Rattle.resolvo_store.proofs.Words.{has_true_row, HasSettled, is_false, is_false_literal, is_literal_in, is_negation}
+use Rattle.resolvo_store.proofs.Words.{is_satisfied, is_true_literal, IsModel, IsSettled, IsSolved, IsSound}
+use Rattle.resolvo_store.proofs.Words.{known_false, known_true, list_all, list_any, list_rows, lists_of, Lit}
+use Rattle.resolvo_store.proofs.Words.{literals_of, MayLeaveFalse, Neg, Pos, requires_from, RequiresClause, rows}
+use Rattle.resolvo_store.proofs.Words.{rows_of, same_literal, sets_of, Store, stored_of, true_alone, truth, undecided}
+use Rattle.resolvo_store.proofs.Words.{unwrap_or, Values, values, VersionSetId}
+use Rattle.clauses.specs.declared.clause.Clause.TheVariants as Kind
 
 -- ---- tests
 

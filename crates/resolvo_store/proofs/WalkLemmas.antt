@@ -1,31 +1,19 @@
 -- What the calls on a store's queue walk and owe. N are the names, S the solvables.
 use Rattle.std.proofs.Common.{◌≡◌, ℕ, ◌+◌, ◌≤◌, ◌<◌, ◌⊎◌, inl, Bool, false, List, length, drop, get_or, Result, Ok}
 use Rattle.std.proofs.Common.{Err, refl, sym, subst, ap, ◌∙◌, arith}
-use Rattle.std.specs.Prelude.{All, OnOk, OnErr, unwrap_or, [], ◌++◌}
-use Rattle.std.specs.Map.{lookup}
-use Rattle.std.specs.declared.vec.Vec.{Vec}
-use Rattle.typed_ids.specs.TotalMaps.{SameValues}
-use Rattle.providers.specs.Provider.{sets_of}
-use Rattle.providers.specs.Requirement.{same_requirement}
-use Rattle.providers.specs.declared.requirement.Requirement.{Requirement}
-use Rattle.decisions.specs.Trail.{Trail, floor_taken}
-use Rattle.decisions.specs.declared.decision.Decision.{Decision}
+use Rattle.std.specs.Prelude.{All, [], ◌++◌}
 use Rattle.clauses.specs.declared.disjunction.Disjunction.{Disjunction}
-use Rattle.resolvo_queue.specs.Queue.{Queue, HasTrail, IsRegistered, IsUnchanged, SameSync, StandsOn}
-use Rattle.resolvo_queue.specs.References.{References, IsWalkable, references, rows_in}
-use Rattle.resolvo_queue.specs.Routing.{variables_of}
-use Rattle.resolvo_queue.specs.Rows.{rows}
-use Rattle.resolvo_queue.specs.WalkCounts.{HasNoneOf, WalksOnce, changed_from, owed, walks}
-use Rattle.resolvo_queue.specs.declared.requires_clause.RequiresClause.{RequiresClause}
+use Rattle.resolvo_queue.specs.Queue.{IsRegistered}
 use Rattle.resolvo_queue.proofs.Clauses.Callers.{walks_within}
-use Rattle.resolvo_store.specs.QueueState.{QueueState, queue_state_of}
-use Rattle.resolvo_store.specs.Lists.{IsConsistent, lists_of_loaded}
-use Rattle.resolvo_store.specs.Store.{Store, rows_of}
-use Rattle.resolvo_store.specs.Synced.{decisions_of}
-use Rattle.resolvo_store.specs.Walks.{WalksEachOnce, HasSynced, OwesFirst, SyncsNothing, WalksNothing, changed_since}
+use Rattle.resolvo_store.proofs.Words.{Cache, changed_from, changed_since, Decision, decisions_of, floor_taken}
+use Rattle.resolvo_store.proofs.Words.{HasNoneOf, HasSynced, HasTrail, IsConsistent, IsUnchanged, IsWalkable}
+use Rattle.resolvo_store.proofs.Words.{lists_of_loaded, lookup, OnErr, OnOk, owed, OwesFirst, Queue, queue_state_of}
+use Rattle.resolvo_store.proofs.Words.{QueueState, References, references, Requirement, RequiresClause, rows, rows_in}
+use Rattle.resolvo_store.proofs.Words.{rows_of, same_requirement, SameSync, SameValues, sets_of, StandsOn, Store}
+use Rattle.resolvo_store.proofs.Words.{SyncsNothing, Trail, unwrap_or, variables_of, Vec, walks, WalksEachOnce}
+use Rattle.resolvo_store.proofs.Words.{WalksNothing, WalksOnce}
 use Rattle.resolvo_store.proofs.AskingLemmas.{can_walk}
 use Rattle.resolvo_store.proofs.ListLemmas.{rows-kept}
-use Rattle.solver_cache.specs.Cache.{Cache}
 
 -- what holds whatever the result holds of success
 pub on_any : {T E P : Type 0} (result : Result T E) → P → OnOk result P

@@ -1,25 +1,18 @@
 -- What clauses watch is theirs: two different ones of their literals, or none; and it stays so as a store grows.
 use Rattle.std.proofs.Common.{◌≡◌, ℕ, zero, suc, ◌<◌, Bool, true, false, ◌||◌, cond, nat_eq, List, [], ◌∷◌, ◌++◌}
 use Rattle.std.proofs.Common.{length, map, slice_index_or, set, Option, Some, None, refl, sym, subst, ◌∙◌, arith}
-use Rattle.std.specs.Prelude.{Contains, flat_map, slice_get, option_map, unwrap_or}
-use Rattle.std.specs.Cmp.{IsEquivalence}
-use Rattle.std.specs.Map.{lookup}
+use Rattle.std.specs.Prelude.{slice_get, option_map}
 use Rattle.std.proofs.lemmas.Bool.{eqb-true, eqb-false}
 use Rattle.std.proofs.lemmas.List.Folds.{list_any-append}
 use Rattle.std.proofs.lemmas.Map.Views.{list_any-from_Contains}
-use Rattle.providers.specs.declared.requirement.Requirement.{Requirement}
-use Rattle.providers.specs.Requirement.{same_requirement}
-use Rattle.decisions.specs.Literals.{Lit, Pos, Neg, Values}
-use Rattle.clauses.specs.declared.clause.Clause.{Clause}
-use Rattle.clauses.specs.declared.clause.Clause.TheVariants as Kind
-use Rattle.clauses.specs.Clauses.{StoredLiterals, literals_of, learnt_literals, condition_literals, first_watches}
-use Rattle.clauses.specs.Clauses.{same_literal}
-use Rattle.clauses.specs.Laws.{AreTwoOf}
 use Rattle.clauses.proofs.CallerLaws.{first_watches_are_two}
-use Rattle.watch_map.specs.Watching.{is_literal_in, AreTwoOrNone}
 use Rattle.watch_map.proofs.WatchingLaws.{same_is, same_self, same_swap, differ}
-use Rattle.watch_map.specs.ClauseList.{two_or_none, rewatched}
 use Rattle.watch_map.proofs.ListCallerLaws.{set_watches}
+use Rattle.resolvo_store.proofs.Words.{AreTwoOf, AreTwoOrNone, Clause, condition_literals, Contains, first_watches}
+use Rattle.resolvo_store.proofs.Words.{flat_map, is_literal_in, IsEquivalence, learnt_literals, Lit, literals_of}
+use Rattle.resolvo_store.proofs.Words.{lookup, Neg, Pos, Requirement, rewatched, same_literal, same_requirement}
+use Rattle.resolvo_store.proofs.Words.{StoredLiterals, two_or_none, unwrap_or, Values}
+use Rattle.clauses.specs.declared.clause.Clause.TheVariants as Kind
 
 -- ---- first watches
 

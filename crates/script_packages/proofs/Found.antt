@@ -3,11 +3,8 @@ use Rattle.std.proofs.Common.{◌≡◌, ℕ, suc, ◌+◌, Bool, true, false, n
 use Rattle.std.proofs.Common.{length, refl}
 use Rattle.std.proofs.Common.{sym, ap, ◌∙◌, arith}
 use Rattle.std.specs.Prelude.{None, nat_lt}
-use Rattle.std.specs.List.{position, position_or_len}
-use Rattle.std.specs.Str.{bytes_eq}
 use Rattle.std.proofs.lemmas.Bool.Decides.{nat_tests}
-use Rattle.package_pool.specs.Interned.{has_same}
-use Rattle.script_packages.specs.Listing.{Listing, named, with_pool}
+use Rattle.script_packages.proofs.Words.{bytes_eq, has_same, Listing, named, position, position_or_len, with_pool}
 
 of_test : (b : Bool) (place found : ℕ) → cond b (Some place) None ≡ Some found → (b ≡ true) × (place ≡ found)
 of_test true place found h = (refl, cc)

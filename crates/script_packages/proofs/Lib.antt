@@ -9,3 +9,4 @@ pub mod Spans
 pub mod Stars
 pub mod Unread
 pub mod Versioned
+pub mod Words

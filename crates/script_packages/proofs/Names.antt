@@ -1,12 +1,10 @@
 -- Whether a name is listed, by its place among the names.
-use Rattle.std.specs.Prelude.{slice_get, option_map}
 use Rattle.std.proofs.lemmas.Option.{slice_get-map, get_or_from_slice_get}
 use Rattle.std.proofs.Common.{◌≡◌, ℕ, ◌<◌, ◌≤◌, Bool, true, false, ◌&&◌, nat_lt, List, [], Some, map, get_or, length}
 use Rattle.std.proofs.Common.{arith, sym, ap, ◌∙◌}
 use Rattle.std.proofs.lemmas.Bool.Decides.{nat_tests}
 use Rattle.std.proofs.lemmas.List.Sums.{position_or_len_is}
-use Rattle.std.specs.Str.{bytes_eq}
-use Rattle.script_packages.specs.Listing.{Listing, name_number, has_span, is_listed}
+use Rattle.script_packages.proofs.Words.{bytes_eq, has_span, is_listed, Listing, name_number, option_map, slice_get}
 
 -- a value at a place, seen by a function
 pub name_at : {X : Type 0} (v : X → List ℕ) (xs : List X) (i : ℕ) (x : X) → slice_get xs i ≡ Some x →

@@ -1,11 +1,8 @@
 -- The order of preference is total, and tells any two solvables apart.
 use Rattle.std.proofs.Common.{◌≡◌, ℕ, List, sym, ap, true≢false, Ordering, Less, Equal, Greater, is_lt, is_gt}
 use Rattle.std.proofs.Common.{nat_cmp, IsPermutation, IsSorted}
-use Rattle.std.specs.Cmp.{IsTotalOrder}
-use Rattle.std.specs.Ordering.{ordering_then}
 use Rattle.std.proofs.lemmas.Cmp.{ranked, nat_cmp_total, on_total, back_total, then_total}
-use Rattle.package_pool.specs.declared.solvable.Solvable.{Solvable}
-use Rattle.script_packages.specs.Order.{version_at, preference, best_first}
+use Rattle.script_packages.proofs.Words.{best_first, IsTotalOrder, ordering_then, preference, Solvable, version_at}
 use Rattle.script_packages.proofs.Sorting.{sorted_is-sort_by}
 
 pub preference_total : (all : List (Solvable ℕ)) → IsTotalOrder (preference all)

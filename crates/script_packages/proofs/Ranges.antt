@@ -1,9 +1,6 @@
 -- The solvables whose versions are in a range.
 use Rattle.std.proofs.Common.{ℕ, Bool, List}
-use Rattle.package_pool.specs.declared.solvable.Solvable.{Solvable}
-use Rattle.script_packages.specs.declared.packages.VersionRange.{VersionRange}
-use Rattle.script_packages.specs.Order.{version_at}
-use Rattle.script_packages.specs.Packages.{is_within}
+use Rattle.script_packages.proofs.Words.{is_within, Solvable, version_at, VersionRange}
 
 -- whether a solvable's version is in the range
 abbrev pub holds : VersionRange → List (Solvable ℕ) → ℕ → Bool

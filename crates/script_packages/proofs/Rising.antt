@@ -2,13 +2,9 @@
 use Rattle.std.proofs.Common.{◌≡◌, ℕ, suc, zero, ◌+◌, ◌-◌, ◌<◌, Bool, true, false, ◌&&◌, List, [], ◌∷◌, length}
 use Rattle.std.proofs.Common.{get_or, refl, sym}
 use Rattle.std.proofs.Common.{ap, ap₂, subst, ◌∙◌, arith, true≢false, nat_cmp, is_lt, Greater, IsSorted}
-use Rattle.std.specs.Prelude.{reverse}
-use Rattle.std.specs.Cmp.{nat_cmp_is}
-use Rattle.std.specs.Ordering.{ordering_then}
 use Rattle.std.proofs.lemmas.Bool.{ltb-true}
 use Rattle.std.proofs.lemmas.List.{get_or-reverse, length-reverse}
-use Rattle.package_pool.specs.declared.solvable.Solvable.{Solvable}
-use Rattle.script_packages.specs.Order.{version_at, preference, rises}
+use Rattle.script_packages.proofs.Words.{nat_cmp_is, ordering_then, preference, reverse, rises, Solvable, version_at}
 
 both : (a b : Bool) → (a && b) ≡ true → (a ≡ true) × (b ≡ true)
 both true b h = (refl, h)

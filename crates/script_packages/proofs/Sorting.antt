@@ -2,17 +2,14 @@
 use Rattle.std.proofs.Common.{◌≡◌, ℕ, suc, ◌+◌, Bool, true, false, cond, List, [], ◌∷◌, refl}
 use Rattle.std.proofs.Common.{sym, ap, ap₂, ◌∙◌, arith, add-one, true≢false, Ordering, Less}
 use Rattle.std.proofs.Common.{Equal, Greater, is_lt, is_gt, sum_by, IsPermutation, IsSorted}
-use Rattle.std.specs.Prelude.{⊤, if◌then◌else◌}
-use Rattle.std.specs.List.{AllByRecursion}
-use Rattle.std.specs.Cmp.{IsTotalOrder, IsStrictWeakOrder}
-use Rattle.std.specs.Ordering.{ordering_reverse}
+use Rattle.std.specs.Prelude.{if◌then◌else◌}
 use Rattle.std.proofs.lemmas.Cmp.{tied_itself}
 use Rattle.std.proofs.lemmas.List.Elements.{recursion_from_All}
 use Rattle.std.proofs.lemmas.List.MinMax.{ranks_by}
 use Rattle.std.proofs.lemmas.List.Sorted.{sorted_far, sum_by-IsPermutation}
 use Rattle.std.proofs.lemmas.List.Sums.{sum_by-cons}
-use Rattle.script_packages.specs.Order.{insert_sorted, sort_by}
-use Rattle.script_packages.specs.OrderLaws.{sort_by_permutes}
+use Rattle.script_packages.proofs.Words.{AllByRecursion, insert_sorted, IsStrictWeakOrder, IsTotalOrder}
+use Rattle.script_packages.proofs.Words.{ordering_reverse, sort_by, sort_by_permutes, ⊤}
 
 module _ {X : Type 0} (cmp : X → X → Ordering) (total : IsTotalOrder cmp) (apart : (x y : X) → cmp x y ≡ Equal →
     x ≡ y) where

@@ -1,10 +1,6 @@
 -- A span of a name that had none is after the others; that of another name keeps its place.
 use Rattle.std.proofs.Common.{◌≡◌, ℕ, true, false, cond, List, [], ◌∷◌, ◌++◌, Some, ap, refl, sym, true≢false}
-use Rattle.std.specs.Prelude.{is_some}
-use Rattle.std.specs.Map.{lookup, set_value}
-use Rattle.indexmap.specs.IndexMap.{insert_entry}
-use Rattle.script_packages.specs.declared.packages.Span.{Span}
-use Rattle.script_packages.specs.Packages.{same_id}
+use Rattle.script_packages.proofs.Words.{insert_entry, is_some, lookup, same_id, set_value, Span}
 
 pub inserted_span : (spans : List (ℕ × Span)) (name : ℕ) (span : Span) → is_some (lookup (same_id name) spans) ≡ false
     → insert_entry same_id spans name span ≡ spans ++ (name, span) ∷ []

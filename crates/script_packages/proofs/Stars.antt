@@ -1,17 +1,14 @@
 -- Where a line has no star, none of its words has one.
 use Rattle.std.proofs.Common.{◌≡◌, ℕ, suc, ◌-◌, ◌+◌, ◌==◌, ◌&&◌, ◌++◌, Bool, true, false, cond, List, [], ◌∷◌, refl}
 use Rattle.std.proofs.Common.{ap, ◌∙◌, arith, length, filter, None, Some}
-use Rattle.std.specs.Prelude.{take, drop, nat_eq, nat_lt, codes, Option, option_and_then, if◌then◌else◌}
-use Rattle.std.specs.List.{list_any, position_from}
-use Rattle.std.specs.Str.{bytes_eq}
+use Rattle.std.specs.Prelude.{take, drop, nat_lt, Option, if◌then◌else◌}
 use Rattle.std.proofs.lemmas.Bool.{or_from, or_parts}
 use Rattle.std.proofs.lemmas.Bool.Decides.{nat_tests}
 use Rattle.std.proofs.lemmas.List.Folds.{list_any-append}
-use Rattle.script_text.specs.Numbers.{is_digit, number_of, value_from, with_digit}
-use Rattle.script_text.specs.Words.{begun_word, words, words_from}
 use Rattle.script_text.proofs.NumberWords.{digit_of}
-use Rattle.script_packages.specs.Ids.{number_32}
-use Rattle.script_packages.specs.Versions.{is_starred, favored_place, version_of}
+use Rattle.script_packages.proofs.Words.{begun_word, bytes_eq, codes, favored_place, is_digit, is_starred, list_any}
+use Rattle.script_packages.proofs.Words.{nat_eq, number_32, number_of, option_and_then, position_from, value_from}
+use Rattle.script_packages.proofs.Words.{version_of, with_digit, words, words_from}
 
 abbrev is_star : ℕ → Bool
 is_star b = nat_eq b 42

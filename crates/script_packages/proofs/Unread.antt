@@ -1,13 +1,11 @@
 -- Where a word isn't read, nothing is listed.
 use Rattle.std.proofs.Common.{◌≡◌, ℕ, true, false, List, [], ◌∷◌, ◌++◌, Some, Option, ap, refl}
-use Rattle.std.specs.Prelude.{None, ◌&&◌, is_some, option_map, option_and_then, length}
-use Rattle.std.specs.Prelude.{if◌then◌else◌}
-use Rattle.typed_ids.specs.declared.version_set_id.VersionSetId.{VersionSetId}
-use Rattle.script_text.specs.Numbers.{below}
-use Rattle.script_packages.specs.Ids.{number_32}
-use Rattle.script_packages.specs.Versions.{version_of, favored_place, each_is_version, are_versions}
-use Rattle.script_packages.specs.Listing.{Listing, has_span, listed_versions, with_version, with_versions}
-use Rattle.script_packages.specs.Listing.{with_span_from, listed_sets, are_sets, with_some_union}
+use Rattle.std.specs.Prelude.{None, ◌&&◌, length, if◌then◌else◌}
+use Rattle.script_packages.proofs.Words.{are_sets, are_versions, below, each_is_version, favored_place, has_span}
+use Rattle.script_packages.proofs.Words.{is_some, listed_sets, listed_versions, Listing, number_32, option_and_then}
+use Rattle.script_packages.proofs.Words.{option_map, version_of, VersionSetId, with_some_union, with_span_from}
+use Rattle.script_packages.proofs.Words.{with_versions}
+use Rattle.script_packages.specs.Listing.{with_version}
 
 no_versions : (l : Listing) (name : ℕ) (words : List (List ℕ)) → each_is_version words ≡ false →
     listed_versions l name words ≡ None

@@ -3,16 +3,12 @@ use Rattle.std.proofs.Common.{◌≡◌, ℕ, ◌+◌, ◌<◌, List, [], ◌∷
 use Rattle.std.proofs.Common.{IsSorted, is_lt}
 use Rattle.std.proofs.Common.{nat_cmp, Ordering, Less, Equal, Greater}
 use Rattle.std.specs.Prelude.{map, length}
-use Rattle.std.specs.Ordering.{ordering_then}
-use Rattle.std.specs.Cmp.{IsTotalOrder}
-use Rattle.std.specs.List.{swap}
-use Rattle.std.specs.List.Sorted.{apply_swaps, SwapsInRange}
 use Rattle.std.proofs.lemmas.Cmp.{ranked, tied_itself, nat_cmp_total, on_total, back_total, then_total}
 use Rattle.std.proofs.lemmas.List.{get_or-map, length-map}
 use Rattle.indexmap.proofs.ReorderLemmas.{map-swap}
-use Rattle.package_pool.specs.declared.solvable.Solvable.{Solvable}
-use Rattle.script_packages.specs.declared.order.Versioned.{Versioned}
-use Rattle.script_packages.specs.Order.{preference, best_first, with_version, versioned_preference}
+use Rattle.script_packages.proofs.Words.{apply_swaps, best_first, IsTotalOrder, ordering_then, preference, Solvable}
+use Rattle.script_packages.proofs.Words.{swap, SwapsInRange, Versioned, versioned_preference}
+use Rattle.script_packages.specs.Order.{with_version}
 use Rattle.script_packages.proofs.Preferences.{sorted_is-best_first}
 
 pub versioned_preference_total : IsTotalOrder versioned_preference

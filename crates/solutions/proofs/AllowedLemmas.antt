@@ -1,13 +1,8 @@
 -- Whether what is found of a package allows a solvable.
 use Rattle.std.proofs.Common.{◌≡◌, ◌∙◌, Bool, false, not, ◌&&◌, List, Option, None, Some, ap, refl}
 use Rattle.std.proofs.Math.Path.{fun_ext}
-use Rattle.std.specs.List.{list_any}
-use Rattle.std.specs.Prelude.{option_map, unwrap_or}
-use Rattle.resolvo_ids.specs.Types.StringId.{StringId}
-use Rattle.resolvo_pool.specs.Functions.{Provider}
-use Rattle.resolvo_pool.specs.Provider.{candidates_of, excluded_of, locked_of}
-use Rattle.resolvo_pool.specs.Types.Candidates.{Candidates}
-use Rattle.solutions.specs.Solutions.{is_allowed, is_among, is_excluded_by, is_locked_out_by}
+use Rattle.solutions.proofs.Words.{Candidates, candidates_of, excluded_of, is_allowed, is_among, is_excluded_by}
+use Rattle.solutions.proofs.Words.{is_locked_out_by, list_any, locked_of, option_map, Provider, StringId, unwrap_or}
 
 module _ {N S : Type 0} (p : Provider N S) (s : S) where
   -- these candidates allow it

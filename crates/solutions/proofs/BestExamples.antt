@@ -1,9 +1,7 @@
 -- Ranks by a wish for the newest version of a library, and what isn't best by it.
 use Rattle.std.proofs.Common.{◌≡◌, ℕ, true, List, [], ◌∷◌, refl, arith}
 use Rattle.std.proofs.lemmas.List.Elements.{All-nil}
-use Rattle.solutions.specs.Solutions.{IsSolution}
-use Rattle.solutions.specs.Wishes.{IsBest, rank}
-use Rattle.solutions.specs.declared.wish.Alternative.{Alternative}
+use Rattle.solutions.proofs.Words.{Alternative, IsBest, IsSolution, rank}
 use Rattle.solutions.proofs.Examples.{always, ecosystem}
 
 -- version 2 of the library, or else version 1

@@ -5,10 +5,7 @@ use mathlib.Core.Logic.{⊎_elim}
 use Rattle.std.proofs.lemmas.List.{take_all}
 use Rattle.std.proofs.lemmas.List.Elements.{All-nil, All-more}
 use Rattle.std.proofs.lemmas.Option.{slice_get_cases, slice_get-get_or}
-use Rattle.resolvo_pool.specs.Functions.{Provider}
-use Rattle.resolvo_pool.specs.Types.ConditionalRequirement.{ConditionalRequirement}
-use Rattle.solutions.specs.Wishes.{AreRanksSame, IsBest, rank}
-use Rattle.solutions.specs.declared.wish.Alternative.{Alternative}
+use Rattle.solutions.proofs.Words.{Alternative, AreRanksSame, ConditionalRequirement, IsBest, Provider, rank}
 
 alike : (m n : ℕ) → m ≤ n → n ≤ m → m ≡ n
 alike m n up down = omega arith

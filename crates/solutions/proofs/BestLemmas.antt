@@ -1,28 +1,19 @@
 -- Wishes as literals, and what their ranks say of all solutions.
 use Rattle.std.proofs.Common.{◌≡◌, ◌∙◌, ℕ, ◌+◌, ◌<◌, ◌≤◌, Bool, true, not, List, [], ◌∷◌, ◌++◌, length, map, take}
 use Rattle.std.proofs.Common.{min, get_or, ap, sym, subst, if◌then◌else◌, arith}
-use Rattle.std.specs.Prelude.{slice_index, ◌⊎◌}
 use Rattle.std.proofs.Common.{inl}
+use Rattle.std.specs.Prelude.{slice_index, ◌⊎◌}
 use Rattle.std.proofs.lemmas.Bool.{cases_lt}
 use mathlib.Core.Logic.{⊎_elim}
-use Rattle.std.specs.declared.vec.Vec.{Vec}
 use Rattle.std.proofs.lemmas.List.{get_or-map, get_or-take, get_or_append_left, get_or_past, length-map, length-take}
 use Rattle.std.proofs.lemmas.List.{map-append, map_more, take-map}
 use Rattle.std.proofs.Math.Seq.{get_or-append_seam}
 use Rattle.std.proofs.lemmas.List.Elements.{All-get_or, All-nil}
 use Rattle.std.proofs.lemmas.Option.{slice_get_within, get_or_from_slice_get}
-use Rattle.resolvo_pool.specs.Functions.{Provider}
-use Rattle.resolvo_pool.specs.Types.ConditionalRequirement.{ConditionalRequirement}
-use Rattle.solutions.specs.Clauses.{AreSatisfied, AreTrue, Replayed, has_true, is_true}
-use Rattle.solutions.specs.Settled.{AreSameUpTo, IsUnbeaten, first_true, first_trues}
-use Rattle.solutions.specs.Solutions.{IsSolution}
-use Rattle.solutions.specs.Truth.{AreStillSatisfied, truth}
-use Rattle.solutions.specs.Wishes.{AreGranted, IsBest, alternatives_of, before_true, is_so, rank}
-use Rattle.solutions.specs.declared.wish.Wish.{Wish}
-use Rattle.solutions.specs.declared.literal.Fact.{Fact}
-use Rattle.solutions.specs.declared.literal.Fact.TheVariants.{Picked}
-use Rattle.solutions.specs.declared.literal.Literal.{Literal}
-use Rattle.solutions.specs.declared.wish.Alternative.{Alternative}
+use Rattle.solutions.proofs.Words.{Alternative, alternatives_of, AreGranted, AreSameUpTo, AreSatisfied}
+use Rattle.solutions.proofs.Words.{AreStillSatisfied, AreTrue, before_true, ConditionalRequirement, Fact, first_true}
+use Rattle.solutions.proofs.Words.{first_trues, has_true, is_so, is_true, IsBest, IsSolution, IsUnbeaten, Literal}
+use Rattle.solutions.proofs.Words.{Picked, Provider, rank, Replayed, truth, Vec, Wish}
 use Rattle.solutions.proofs.RankLemmas.{before_taken}
 
 -- numbers that are the same as others, or both larger than the ranks, are unbeaten alike

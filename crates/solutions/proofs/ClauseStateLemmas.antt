@@ -2,11 +2,8 @@
 use Rattle.std.proofs.Common.{◌≡◌, ◌∙◌, Bool, true, false, not, if◌then◌else◌, ◌||◌, List, [], ◌∷◌, ◌++◌, ap, refl}
 use Rattle.std.proofs.Common.{sym, true≢false}
 use Rattle.std.proofs.lemmas.List.Folds.{list_any-append}
-use Rattle.solutions.specs.Clauses.{AreTrue, IsStateOf, has_true, is_true}
-use Rattle.solutions.specs.declared.literal.Fact.{Fact}
-use Rattle.solutions.specs.declared.literal.Literal.{Literal}
-use Rattle.solutions.specs.declared.clause_state.ClauseState.{ClauseState}
-use Rattle.solutions.specs.declared.clause_state.ClauseState.TheVariants.{Falsified, Unit, Open}
+use Rattle.solutions.proofs.Words.{AreTrue, ClauseState, Fact, Falsified, has_true, is_true, IsStateOf, Literal, Open}
+use Rattle.solutions.proofs.Words.{Unit}
 
 first_of : (a b : Bool) → b ≡ false → (a || (b || false)) ≡ true → a ≡ true
 first_of true b e h = refl

@@ -1,11 +1,10 @@
 -- Tests that visit one member of a list after another, and end at the first one that fails.
 use Rattle.std.proofs.Common.{◌≡◌, ◌∙◌, ℕ, ◌+◌, ◌≤◌, ◌<◌, Bool, true, false, ◌||◌, List, [], ◌∷◌, length, map, take}
 use Rattle.std.proofs.Common.{get_or, ap, sym, subst, true≢false, refl}
-use Rattle.std.specs.Bool.{Decides}
-use Rattle.std.specs.Prelude.{Result, Ok, Err, IfOk, OnOk}
-use Rattle.std.specs.List.{All, list_any}
+use Rattle.std.specs.Prelude.{IfOk}
 use Rattle.std.proofs.lemmas.List.{take_all}
 use Rattle.std.proofs.lemmas.List.Elements.{All-more}
+use Rattle.solutions.proofs.Words.{All, Decides, Err, list_any, Ok, OnOk, Result}
 
 -- what is so is decided by true, and what isn't by false
 pub decides_true : {P : Type 0} → P → Decides true P

@@ -1,24 +1,17 @@
 -- What clauses say of selections, one clause and one literal after another.
 use Rattle.std.proofs.Common.{◌≡◌, ◌∙◌, ℕ, ◌+◌, ◌<◌, Bool, true, false, not, ◌||◌, ◌&&◌, List, [], ◌∷◌, ◌++◌, length}
 use Rattle.std.proofs.Common.{take, get_or, map, ap, refl, sym, subst, true≢false, if◌then◌else◌}
-use Rattle.std.specs.List.{All, list_any, list_all}
-use Rattle.std.specs.declared.vec.Vec.{Vec}
 use Rattle.std.proofs.lemmas.List.{take_more}
 use Rattle.std.proofs.lemmas.Option.{get_or_from_slice_get, slice_get-get_or}
 use Rattle.std.proofs.lemmas.List.Folds.{list_any-append, list_all-append, list_any_at}
+use Rattle.solutions.proofs.Words.{All, AreAllFit, AreNeedsSatisfied, AreSatisfied, AreStillSatisfied}
+use Rattle.solutions.proofs.Words.{ConditionalRequirement, has_true, HasTrueOr, Held, is_among, is_respected}
+use Rattle.solutions.proofs.Words.{is_satisfied, is_true, IsClauseAdded, IsFit, IsSatisfied, Known, knows_requirement}
+use Rattle.solutions.proofs.Words.{list_all, list_any, Literal, matching, Needs, non_matching, NonePickedUnless, Picked}
+use Rattle.solutions.proofs.Words.{Provider, Requirement, sets_of, truth, Vec, VersionSetId}
 use Rattle.solutions.proofs.DecisionLemmas.{some_passes}
 use Rattle.std.proofs.lemmas.List.Elements.{All-nil, All-cons, All-append, All-head, All-tail, All-get_or}
-use Rattle.resolvo_ids.specs.Types.VersionSetId.{VersionSetId}
-use Rattle.resolvo_pool.specs.Functions.{Provider}
-use Rattle.solutions.specs.Clauses.{AreSatisfied, IsClauseAdded, has_true, is_true}
-use Rattle.resolvo_pool.specs.Dependencies.{Needs, Known}
-use Rattle.resolvo_pool.specs.Provider.{knows_requirement, matching, non_matching, sets_of}
-use Rattle.resolvo_pool.specs.Types.ConditionalRequirement.{ConditionalRequirement}
-use Rattle.resolvo_pool.specs.Types.Requirement.{Requirement}
-use Rattle.solutions.specs.Solutions.{AreNeedsSatisfied, IsSatisfied, has_picked, is_among, is_respected, is_satisfied}
-use Rattle.solutions.specs.Truth.{AreAllFit, IsFit, NonePickedUnless, AreStillSatisfied, HasTrueOr, truth}
-use Rattle.solutions.specs.declared.literal.Fact.TheVariants.{Picked, Held}
-use Rattle.solutions.specs.declared.literal.Literal.{Literal}
+use Rattle.solutions.specs.Solutions.{has_picked}
 
 or_nothing : (b : Bool) → (b || false) ≡ b
 or_nothing true = refl

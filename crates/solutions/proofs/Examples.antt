@@ -3,23 +3,14 @@
 -- version.
 use Rattle.std.proofs.Common.{◌≡◌, ◌∙◌, ◌||◌, ℕ, zero, suc, Bool, true, false, List, [], ◌∷◌, refl, Option, None}
 use Rattle.std.proofs.Common.{Some, if◌then◌else◌, ◌==◌, nat_eq, nat_lt, true≢false, ap, sym, lit<, arith}
-use Rattle.std.specs.List.{IsDistinct}
 use Rattle.std.proofs.lemmas.List.Elements.{All-nil, All-cons, All-head, All-tail}
-use Rattle.resolvo_ids.specs.Types.StringId.{StringId}
-use Rattle.resolvo_ids.specs.Types.VersionSetId.{VersionSetId}
-use Rattle.resolvo_pool.specs.Conditions.{Leaf, leaf}
-use Rattle.resolvo_pool.specs.Dependencies.{Needs, Known}
-use Rattle.resolvo_pool.specs.Functions.{Provider}
-use Rattle.resolvo_pool.specs.Types.Condition.TheVariants as Cond
-use Rattle.resolvo_pool.specs.Types.ConditionalRequirement.{ConditionalRequirement}
-use Rattle.resolvo_pool.specs.Types.Requirement.TheVariants.{Single}
-use Rattle.solutions.specs.Reasons.{AreEnough, IsMet, NoReasonSpare}
-use Rattle.solutions.specs.Solutions.{AreNeedsSatisfied, IsSatisfied, IsSolution, is_allowed, is_among}
-use Rattle.solutions.specs.Wishes.{IsSpare, NoneSpare, rank}
-use Rattle.solutions.specs.declared.reason.Reason.{Reason}
-use Rattle.solutions.specs.declared.reason.Reason.TheVariants as R
-use Rattle.solutions.specs.declared.wish.Alternative.{Alternative}
+use Rattle.solutions.proofs.Words.{Alternative, AreEnough, AreNeedsSatisfied, ConditionalRequirement, is_allowed}
+use Rattle.solutions.proofs.Words.{is_among, IsDistinct, IsMet, IsSatisfied, IsSolution, IsSpare, Known, Leaf, leaf}
+use Rattle.solutions.proofs.Words.{Needs, NoneSpare, NoReasonSpare, Provider, rank, Reason, Single, StringId}
+use Rattle.solutions.proofs.Words.{VersionSetId}
 use Rattle.solutions.proofs.MeetingLemmas.{not_enough_without}
+use Rattle.resolvo_pool.specs.Types.Condition.TheVariants as Cond
+use Rattle.solutions.specs.declared.reason.Reason.TheVariants as R
 
 abbrev set : ℕ → VersionSetId
 set n = record { 0 = n }

@@ -1,12 +1,9 @@
 -- What follows, one step after another.
 use Rattle.std.proofs.Common.{◌≡◌, ◌∙◌, ℕ, ◌<◌, Bool, true, false, not, List, [], ◌∷◌, ◌++◌, if◌then◌else◌, length}
 use Rattle.std.proofs.Common.{take, get_or, ap, refl, sym, subst, true≢false, append_assoc, arith}
-use Rattle.std.specs.List.{All}
 use Rattle.std.proofs.lemmas.List.{append-nil, take-append-le, take_all}
 use Rattle.std.proofs.lemmas.List.Elements.{All-nil, All-cons, All-head, All-tail, All-get_or}
-use Rattle.solutions.specs.Clauses.{AreTrue, Follows, is_true}
-use Rattle.solutions.specs.declared.literal.Fact.{Fact}
-use Rattle.solutions.specs.declared.literal.Literal.{Literal}
+use Rattle.solutions.proofs.Words.{All, AreTrue, Fact, Follows, is_true, Literal}
 
 not_true : (b : Bool) → not b ≡ true → b ≡ true → ⊥
 not_true true e f = true≢false (sym e)

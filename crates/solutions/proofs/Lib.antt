@@ -19,3 +19,4 @@ pub mod ReplayLemmas
 pub mod SettledLemmas
 pub mod SolutionLemmas
 pub mod SpareLemmas
+pub mod Words

@@ -2,14 +2,9 @@
 use Rattle.std.proofs.Common.{◌≡◌, ◌∙◌, ℕ, ◌<◌, Bool, true, false, not, List, Option, None, Some, length, refl, sym}
 use Rattle.std.proofs.Common.{subst, true≢false}
 use Rattle.std.proofs.Math.Path.{fun_ext}
-use Rattle.std.specs.Prelude.{option_map, unwrap_or}
-use Rattle.std.specs.List.{All}
-use Rattle.resolvo_ids.specs.Types.VersionSetId.{VersionSetId}
-use Rattle.resolvo_pool.specs.Functions.{Provider}
-use Rattle.resolvo_pool.specs.Types.ConditionalRequirement.{ConditionalRequirement}
-use Rattle.solutions.specs.Reasons.{AreEnough, IfPicked, IsOneVersion, IsOnlyOne, NoReasonSpare, others}
-use Rattle.solutions.specs.Solutions.{IsSatisfied, is_among, is_respected}
-use Rattle.solutions.specs.declared.reason.Reason.{Reason}
+use Rattle.solutions.proofs.Words.{All, AreEnough, ConditionalRequirement, IfPicked, is_among, is_respected}
+use Rattle.solutions.proofs.Words.{IsOneVersion, IsOnlyOne, IsSatisfied, NoReasonSpare, option_map, others, Provider}
+use Rattle.solutions.proofs.Words.{Reason, unwrap_or, VersionSetId}
 use Rattle.solutions.proofs.EncodingLemmas.{of_picked}
 
 not_true : (b : Bool) → not b ≡ true → b ≡ false

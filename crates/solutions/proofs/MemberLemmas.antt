@@ -2,11 +2,10 @@
 use Rattle.std.proofs.Common.{◌≡◌, ℕ, ◌+◌, ◌<◌, Bool, true, false, ◌||◌, List, [], ◌∷◌, ◌++◌, ◌∙◌, ap, refl, sym}
 use Rattle.std.proofs.Common.{subst, true≢false, length, map, take, drop, get_or, drop-cons}
 use Prim.Native.Nat.{suc}
-use Rattle.std.specs.List.{AllByRecursion, IsDistinct, list_any}
 use Rattle.std.proofs.lemmas.List.{map-append, take_more, take-append-drop}
 use Rattle.std.proofs.lemmas.List.Folds.{list_any-append}
 use Rattle.std.proofs.lemmas.Map.Keys.{IsDistinct-head, IsDistinct-tail, IsDistinct-cons}
-use Rattle.resolvo_ids.specs.TotalMaps.{IsUpdate}
+use Rattle.solutions.proofs.Words.{AllByRecursion, IsDistinct, IsUpdate, list_any}
 
 or_true : (b c : Bool) → (b || (true || c)) ≡ true
 or_true true c = refl

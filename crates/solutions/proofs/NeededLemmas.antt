@@ -1,25 +1,17 @@
 -- Why solvables are needed.
 use Rattle.std.proofs.Common.{◌≡◌, ◌∙◌, ℕ, ◌<◌, ◌≤◌, Bool, true, false, ◌&&◌, List, length, map, take, drop, get_or}
 use Rattle.std.proofs.Common.{ap, refl, sym, subst, true≢false}
-use mathlib.Core.Logic.{⊎_elim}
-use Rattle.std.specs.Bool.{Decides}
-use Rattle.std.specs.List.{All, Any, Contains, list_any}
 use Rattle.std.proofs.Common.{◌+◌, arith}
+use mathlib.Core.Logic.{⊎_elim}
 use Rattle.std.proofs.lemmas.Bool.{cases_lt}
 use Rattle.std.proofs.lemmas.List.{take-append-drop, take_all}
 use Rattle.std.proofs.lemmas.List.Elements.{Contains-append_left, Contains-get_or}
 use Rattle.std.proofs.lemmas.List.Folds.{Any-from_list_any}
 use Rattle.std.proofs.lemmas.Option.{get_or_from_slice_get, slice_get-map, slice_get_within}
-use Rattle.std.specs.Prelude.{Some, option_map, slice_get}
-use Rattle.resolvo_pool.specs.Functions.{Provider}
-use Rattle.resolvo_pool.specs.Types.ConditionalRequirement.{ConditionalRequirement}
-use Rattle.solutions.specs.Needed.{AreCaused, IsCausedBy, IsNeeded, IsWishedAt, Offers, requested, required, wished}
-use Rattle.solutions.specs.Solutions.{is_among}
-use Rattle.solutions.specs.Wishes.{alternatives_of}
-use Rattle.solutions.specs.declared.needed.Cause.{Cause}
-use Rattle.solutions.specs.declared.needed.Cause.TheVariants.{Requested, Required, Wished}
-use Rattle.solutions.specs.declared.wish.Alternative.{Alternative}
-use Rattle.solutions.specs.declared.wish.Wish.{Wish}
+use Rattle.std.specs.Prelude.{Some, slice_get}
+use Rattle.solutions.proofs.Words.{All, Alternative, alternatives_of, Any, AreCaused, Cause, ConditionalRequirement}
+use Rattle.solutions.proofs.Words.{Contains, Decides, is_among, IsCausedBy, IsNeeded, IsWishedAt, list_any, Offers}
+use Rattle.solutions.proofs.Words.{option_map, Provider, Requested, requested, Required, required, Wish, Wished, wished}
 use Rattle.solutions.proofs.DecisionLemmas.{decides_false, decides_true}
 
 module _ {X : Type 0} (P : X → Type 0) (xs : List X) (i : ℕ) where

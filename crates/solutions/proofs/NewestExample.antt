@@ -2,14 +2,9 @@
 -- version 2 is favored. An editor or vim is requested, and vim.
 use Rattle.std.proofs.Common.{◌≡◌, ℕ, true, false, List, [], ◌∷◌, ◌++◌, refl, None, Some}
 use Rattle.std.proofs.Common.{if◌then◌else◌, ◌==◌, nat_eq, nat_lt}
-use Rattle.resolvo_ids.specs.Types.VersionSetId.{VersionSetId}
-use Rattle.resolvo_pool.specs.Dependencies.{Known}
-use Rattle.resolvo_pool.specs.Functions.{Provider}
+use Rattle.solutions.proofs.Words.{Alternative, ConditionalRequirement, Known, newest, Provider, Single, Union}
+use Rattle.solutions.proofs.Words.{VersionSetId}
 use Rattle.resolvo_pool.specs.Types.Condition.TheVariants as Cond
-use Rattle.resolvo_pool.specs.Types.ConditionalRequirement.{ConditionalRequirement}
-use Rattle.resolvo_pool.specs.Types.Requirement.TheVariants.{Single, Union}
-use Rattle.solutions.specs.Newest.{newest}
-use Rattle.solutions.specs.declared.wish.Alternative.{Alternative}
 
 abbrev set : ℕ → VersionSetId
 set n = record { 0 = n }

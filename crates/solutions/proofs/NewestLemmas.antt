@@ -2,17 +2,12 @@
 use Rattle.std.proofs.Common.{◌≡◌, ◌∙◌, ℕ, ◌+◌, ◌<◌, Bool, List, [], ◌∷◌, ◌++◌, length, take, get_or, append_assoc}
 use Rattle.std.proofs.Common.{ap, sym, refl, not, true, false, arith, if◌then◌else◌, Option, None}
 use Rattle.std.specs.Prelude.{map}
-use Rattle.std.specs.List.{flat_map}
-use Rattle.std.specs.List.Sorted.{IsPermutation}
 use Rattle.std.proofs.lemmas.Grind.{flat_map-append}
 use Rattle.std.proofs.lemmas.List.{append-nil, map-append, take_more}
 use Rattle.std.proofs.lemmas.List.Elements.{filter-append}
 use Rattle.std.proofs.lemmas.List.Sorted.{length_permutation}
-use Rattle.resolvo_pool.specs.Provider.{favored_first, filtered}
-use Rattle.solutions.specs.Newest.{alternatives_for}
-use Rattle.solutions.specs.Wishes.{alternatives_of}
-use Rattle.solutions.specs.declared.wish.Alternative.{Alternative}
-use Rattle.solutions.specs.declared.wish.Wish.{Wish}
+use Rattle.solutions.proofs.Words.{Alternative, alternatives_for, alternatives_of, favored_first, filtered, flat_map}
+use Rattle.solutions.proofs.Words.{IsPermutation, Wish}
 
 module _ {X A : Type 0} (xs : List X) (i : ℕ) (x : X) (below : i < length xs) (is : x ≡ get_or xs i x) where
   -- what is written of the elements up to the next one, and then of that one

@@ -1,15 +1,12 @@
 -- How many are false before the first that is true.
 use Rattle.std.proofs.Common.{◌≡◌, ◌∙◌, ℕ, zero, suc, ◌+◌, ◌<◌, ◌≤◌, Bool, true, false, ◌||◌, List, [], ◌∷◌, ◌++◌}
 use Rattle.std.proofs.Common.{length, map, take, get_or, ap, refl, sym, true≢false, add-one, arith}
-use Rattle.std.specs.List.{list_any}
+use Rattle.std.proofs.Common.{inl, inr}
 use Rattle.std.specs.Prelude.{◌⊎◌}
 use mathlib.Core.Logic.{⊎_elim}
-use Rattle.std.proofs.Common.{inl, inr}
-use Rattle.solutions.specs.Wishes.{alternatives_of, before_true}
-use Rattle.solutions.specs.declared.wish.Wish.{Wish}
 use Rattle.std.proofs.lemmas.List.{map_more}
 use Rattle.std.proofs.lemmas.Simd.{map-map}
-use Rattle.solutions.specs.declared.wish.Alternative.{Alternative}
+use Rattle.solutions.proofs.Words.{Alternative, alternatives_of, before_true, list_any, Wish}
 
 -- by a test
 module _ {X : Type 0} (test : X → Bool) where

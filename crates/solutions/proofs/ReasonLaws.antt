@@ -1,21 +1,15 @@
 -- What is so demands of each solution what the reasons demand; and if the reasons are enough, there is none.
 use Rattle.std.proofs.Common.{◌≡◌, ◌∙◌, Bool, true, false, not, ◌||◌, ◌&&◌, List, [], ◌∷◌, map, Option, None, Some}
 use Rattle.std.proofs.Common.{ap, refl, sym, subst, true≢false}
-use Rattle.std.specs.List.{All, AllByRecursion, Contains, IsDistinct, list_all, list_any}
 use Rattle.std.proofs.lemmas.List.Elements.{All-contains, All-cons, All-nil, All-weaker}
 use Rattle.std.proofs.lemmas.Map.Keys.{IsDistinct-head, IsDistinct-tail}
-use Rattle.resolvo_ids.specs.Types.StringId.{StringId}
-use Rattle.resolvo_ids.specs.Types.VersionSetId.{VersionSetId}
-use Rattle.resolvo_pool.specs.Dependencies.{Needs, Known, Unknown}
-use Rattle.resolvo_pool.specs.Functions.{Provider}
-use Rattle.resolvo_pool.specs.Types.ConditionalRequirement.{ConditionalRequirement}
-use Rattle.solutions.specs.Reasons.{AreEnough, AreSo, IfPicked, IsMet, IsOneVersion, IsOnlyOne, IsSo, constraints_in}
-use Rattle.solutions.specs.Reasons.{required_by, requirements_in}
-use Rattle.solutions.specs.Solutions.{AreNeedsSatisfied, IsSatisfied, IsSolution, IsUnsolvable}
-use Rattle.solutions.specs.Solutions.{is_allowed, is_among, is_excluded_by, is_locked_out_by, is_respected}
-use Rattle.solutions.specs.declared.reason.Reason.{Reason}
-use Rattle.solutions.specs.declared.reason.Reason.TheVariants as R
+use Rattle.solutions.proofs.Words.{All, AllByRecursion, AreEnough, AreNeedsSatisfied, AreSo, ConditionalRequirement}
+use Rattle.solutions.proofs.Words.{constraints_in, Contains, IfPicked, is_allowed, is_among, is_excluded_by}
+use Rattle.solutions.proofs.Words.{is_locked_out_by, is_respected, IsDistinct, IsMet, IsOneVersion, IsOnlyOne}
+use Rattle.solutions.proofs.Words.{IsSatisfied, IsSo, IsSolution, IsUnsolvable, Known, list_all, list_any, Needs}
+use Rattle.solutions.proofs.Words.{Provider, Reason, required_by, requirements_in, StringId, Unknown, VersionSetId}
 use Rattle.solutions.proofs.EncodingLemmas.{of_picked, none_of}
+use Rattle.solutions.specs.declared.reason.Reason.TheVariants as R
 
 both_true : (a b : Bool) → (a && b) ≡ true → (a ≡ true) × (b ≡ true)
 both_true true b h = (refl, h)

@@ -1,22 +1,12 @@
 -- What reasons demand, as clauses.
 use Rattle.std.proofs.Common.{◌≡◌, ◌∙◌, ℕ, ◌+◌, ◌<◌, Bool, true, false, not, ◌||◌, ◌&&◌, List, [], ◌∷◌, length, take}
 use Rattle.std.proofs.Common.{get_or, ap, refl, sym, subst, true≢false}
-use Rattle.std.specs.List.{All, list_any}
-use Rattle.std.specs.declared.vec.Vec.{Vec}
 use Rattle.std.proofs.lemmas.List.Elements.{All-cons, All-get_or, All-nil, All-take, All-weaker}
 use Rattle.std.proofs.lemmas.List.Folds.{list_any_none}
-use Rattle.resolvo_ids.specs.Types.VersionSetId.{VersionSetId}
-use Rattle.resolvo_pool.specs.Functions.{Provider}
-use Rattle.resolvo_pool.specs.Provider.{non_matching}
-use Rattle.resolvo_pool.specs.Types.ConditionalRequirement.{ConditionalRequirement}
-use Rattle.solutions.specs.Clauses.{has_true, is_true}
-use Rattle.solutions.specs.Reasons.{IsMet, IsOneVersion, IsOnlyOne}
-use Rattle.solutions.specs.Solutions.{IsSatisfied, is_allowed, is_among, is_respected}
-use Rattle.solutions.specs.Truth.{AreSatisfiedUnless, AreStillSatisfied, NonePickedUnless, truth}
-use Rattle.solutions.specs.declared.literal.Fact.{Fact}
-use Rattle.solutions.specs.declared.literal.Fact.TheVariants.{First, Picked}
-use Rattle.solutions.specs.declared.literal.Literal.{Literal}
-use Rattle.solutions.specs.declared.reason.Reason.{Reason}
+use Rattle.solutions.proofs.Words.{All, AreSatisfiedUnless, AreStillSatisfied, ConditionalRequirement, Fact, First}
+use Rattle.solutions.proofs.Words.{has_true, is_allowed, is_among, is_respected, is_true, IsMet, IsOneVersion}
+use Rattle.solutions.proofs.Words.{IsOnlyOne, IsSatisfied, list_any, Literal, non_matching, NonePickedUnless, Picked}
+use Rattle.solutions.proofs.Words.{Provider, Reason, truth, Vec, VersionSetId}
 use Rattle.solutions.proofs.EncodingLemmas.{any_more, none_of, none_where_respected, not_is_true, of_picked}
 use Rattle.solutions.proofs.EncodingLemmas.{picked_where_false}
 use Rattle.solutions.proofs.SolutionLemmas.{All-both}

@@ -1,13 +1,9 @@
 -- Learnt clauses, one after another, and what follows for each solution.
 use Rattle.std.proofs.Common.{◌≡◌, ◌∙◌, Bool, true, false, not, ◌||◌, List, [], ◌∷◌, ◌++◌, map, ap, refl, sym, subst}
 use Rattle.std.proofs.Common.{true≢false, if◌then◌else◌}
-use Rattle.std.specs.declared.vec.Vec.{Vec}
 use Rattle.std.proofs.lemmas.List.Elements.{All-nil, All-cons, All-append}
-use Rattle.resolvo_pool.specs.Functions.{Provider}
-use Rattle.solutions.specs.Clauses.{AreSatisfied, AreTrue, Follows, Replayed, has_true, is_true}
-use Rattle.solutions.specs.Truth.{AreStillSatisfied, truth}
-use Rattle.solutions.specs.declared.literal.Fact.{Fact}
-use Rattle.solutions.specs.declared.literal.Literal.{Literal}
+use Rattle.solutions.proofs.Words.{AreSatisfied, AreStillSatisfied, AreTrue, Fact, Follows, has_true, is_true, Literal}
+use Rattle.solutions.proofs.Words.{Provider, Replayed, truth, Vec}
 
 module _ {N S : Type 0} where
   negated_true : (holds : Fact N S → Bool) (literals : List (Literal N S)) (opposite : Literal N S → Literal N S)

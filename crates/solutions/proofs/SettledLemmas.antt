@@ -4,14 +4,11 @@ use Rattle.std.proofs.Common.{take, drop, drop-cons, get_or, slice_range, ap, re
 use Rattle.std.specs.Prelude.{slice_index}
 use Rattle.std.proofs.lemmas.Bool.{cases_lt}
 use mathlib.Core.Logic.{⊎_elim}
-use Rattle.std.specs.declared.vec.Vec.{Vec}
 use Rattle.std.proofs.lemmas.List.{get_or-map}
 use Rattle.std.proofs.lemmas.List.Elements.{All-nil, All-cons, All-append}
 use Rattle.std.proofs.lemmas.Option.{slice_get_cases}
-use Rattle.solutions.specs.Clauses.{AreSatisfied, AreTrue, Follows, IsClauseAdded, Replayed, has_true, is_true}
-use Rattle.solutions.specs.Settled.{IsAtLeast, IsUnbeaten, Settled, StaysTrue, first_true, first_trues}
-use Rattle.solutions.specs.declared.literal.Fact.{Fact}
-use Rattle.solutions.specs.declared.literal.Literal.{Literal}
+use Rattle.solutions.proofs.Words.{AreSatisfied, AreTrue, Fact, first_true, first_trues, Follows, has_true, is_true}
+use Rattle.solutions.proofs.Words.{IsAtLeast, IsClauseAdded, IsUnbeaten, Literal, Replayed, Settled, StaysTrue, Vec}
 use Rattle.solutions.proofs.RankLemmas.{before_at, before_more}
 
 -- what isn't true is false

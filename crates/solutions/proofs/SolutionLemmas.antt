@@ -2,14 +2,9 @@
 use Rattle.std.proofs.Common.{◌≡◌, ◌∙◌, Bool, true, false, sym, subst, List, [], ◌∷◌, map}
 use Rattle.std.proofs.Math.Path.{fun_ext}
 use Rattle.std.proofs.lemmas.List.Elements.{All-nil, All-cons, All-head, All-tail, All-weaker}
-use Rattle.std.specs.Bool.{Decides}
-use Rattle.std.specs.List.{All, IsDistinct, list_all}
-use Rattle.resolvo_ids.specs.Types.VersionSetId.{VersionSetId}
-use Rattle.resolvo_pool.specs.Dependencies.{Needs, Known}
-use Rattle.resolvo_pool.specs.Functions.{Provider}
-use Rattle.resolvo_pool.specs.Types.ConditionalRequirement.{ConditionalRequirement}
-use Rattle.solutions.specs.Solutions.{AreNeedsSatisfied, IsSatisfied, IsSolution, is_allowed, is_among, is_respected}
-use Rattle.solutions.specs.Truth.{AreAllFit, IsFit}
+use Rattle.solutions.proofs.Words.{All, AreAllFit, AreNeedsSatisfied, ConditionalRequirement, Decides, is_allowed}
+use Rattle.solutions.proofs.Words.{is_among, is_respected, IsDistinct, IsFit, IsSatisfied, IsSolution, Known, list_all}
+use Rattle.solutions.proofs.Words.{Needs, Provider, VersionSetId}
 use Rattle.solutions.proofs.DecisionLemmas.{decides_false, refuted}
 
 -- what both parts of known needs decide

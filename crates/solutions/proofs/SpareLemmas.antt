@@ -1,9 +1,6 @@
 -- What can't be left out.
 use Rattle.std.proofs.Common.{◌≡◌, ◌∙◌, ℕ, Bool, true, false, not, ◌&&◌, List, [], ◌∷◌, map, ap, refl, sym, subst}
 use Rattle.std.proofs.Common.{true≢false, nat_eq}
-use Rattle.std.specs.Bool.{Decides}
-use Rattle.std.specs.Cmp.Lexicographic.{pointwise}
-use Rattle.std.specs.List.{All, list_any}
 use Rattle.std.proofs.lemmas.Bool.Decides.{Decides-eqb, Decides-like}
 use Rattle.std.proofs.lemmas.List.Elements.{All-cons, All-head, All-nil, All-tail}
 use Rattle.std.proofs.lemmas.List.Folds.{Any-from_list_any}
@@ -11,13 +8,10 @@ use Rattle.std.proofs.lemmas.Slice.Eq.{slice_eq-Decides}
 use Rattle.std.proofs.Math.Path.{fun_ext}
 use Rattle.std.proofs.lemmas.Map.Views.{any-filter_same}
 use Rattle.std.proofs.lemmas.Option.{get_or_from_slice_get, slice_get_within}
-use Rattle.std.specs.Prelude.{Some, filter, slice_get}
-use Rattle.resolvo_pool.specs.Functions.{Provider}
-use Rattle.resolvo_pool.specs.Types.ConditionalRequirement.{ConditionalRequirement}
-use Rattle.solutions.specs.Selections.{IsNoSolution, is_kept}
-use Rattle.solutions.specs.Solutions.{AreNeedsSatisfied, IsSatisfied, is_among}
-use Rattle.solutions.specs.Wishes.{AreRanksSame, rank}
-use Rattle.solutions.specs.declared.wish.Alternative.{Alternative}
+use Rattle.std.specs.Prelude.{Some, slice_get}
+use Rattle.solutions.proofs.Words.{All, Alternative, AreNeedsSatisfied, AreRanksSame, ConditionalRequirement, Decides}
+use Rattle.solutions.proofs.Words.{filter, is_among, is_kept, IsNoSolution, IsSatisfied, list_any, pointwise, Provider}
+use Rattle.solutions.proofs.Words.{rank}
 use Rattle.solutions.proofs.DecisionLemmas.{refuted}
 
 pub not_true : (b : Bool) → not b ≡ true → b ≡ false

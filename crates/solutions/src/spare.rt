@@ -14,16 +14,16 @@ use resolvo_ids::{SolverId, StoreError};
 use resolvo_pool::{ConditionalRequirement, DependencyProvider, Interner, ProviderFunctions};
 use std::alloc::Allocator;
 
-/// The place of a picked solvable that can be left out: what is left is a solution, and as good by all wishes. Each
-/// cause is tried first: where the requirement at its place, or what the solvable at its place needs, isn't satisfied
-/// without the solvable, it can't be left out. That costs what these requirements cost. Otherwise what is left is
-/// checked whole.
+/// The place of a picked solvable that can be left out: the rest is a solution, and as good by all wishes. Of each one
+/// it first tests what should break without it (`breaks`): a requirement of the request, or another solvable's needs.
+/// If the rest doesn't satisfy that, the solvable can't be left out; the test costs what these requirements cost.
+/// Otherwise the ranks of the rest are compared, and then the rest is checked as a whole.
 pub fn find_spare<D: DependencyProvider>(
     alloc: D::Alloc,
     provider: &D,
     request: &Request<D::SolvableId, D::Alloc>,
     picked: &[D::SolvableId],
-    causes: &[Cause],
+    breaks: &[Cause],
 ) -> Result<Option<usize>, StoreError>
     ensures none { IfOk result (λ found. found ≡ None → NoneSpare (⟦<D as ProviderFunctions>⟧.functions provider.now)
         request.now.requirements.now (alternatives_of request.now.wishes.now) picked.now) }
@@ -40,14 +40,14 @@ pub fn find_spare<D: DependencyProvider>(
     for place in 0..picked.len() {
         let solvable = picked[place];
         selection.left_out = Some(solvable);
-        if is_spare(&selection, &choice, solvable, causes.get(place).copied())? {
+        if is_spare(&selection, &choice, solvable, breaks.get(place).copied())? {
             return Ok(Some(place));
         }
     }
     Ok(None)
 }
 
-/// What a request picks, and the wishes' ranks.
+/// A request, what is picked for it, and the wishes' ranks.
 #[derive(Drop)]
 struct Choice<'c, D: DependencyProvider> {
     request: &'c Request<'c, D::SolvableId, D::Alloc>,
@@ -55,7 +55,7 @@ struct Choice<'c, D: DependencyProvider> {
     ranks: Vec<usize, D::Alloc>,
 }
 
-/// Whether a picked solvable can be left out, where the selection has the others.
+/// Whether a picked solvable can be left out. The selection has all others.
 fn is_spare<D: DependencyProvider>(
     selection: &Selection<D>,
     choice: &Choice<D>,
@@ -105,7 +105,7 @@ fn without<S: SolverId<A>, A: Allocator + Copy>(
     Ok(rest)
 }
 
-/// Whether the requirement of a cause, or what the solvable at its place needs, isn't satisfied.
+/// Whether the requirement at a cause's place, or the needs of the solvable there, aren't satisfied.
 fn is_cause_unsatisfied<D: DependencyProvider>(
     selection: &Selection<D>,
     choice: &Choice<D>,
@@ -140,7 +140,7 @@ fn is_requirement_unsatisfied<D: DependencyProvider>(
     Ok(!selection.satisfies(*requirement)?)
 }
 
-/// Whether the solvable at a place isn't left out, and what it needs isn't satisfied.
+/// Whether the solvable at a place is kept, and its needs aren't satisfied.
 fn is_need_unsatisfied<D: DependencyProvider>(
     selection: &Selection<D>,
     choice: &Choice<D>,

@@ -2,7 +2,7 @@
 use resolvo_ids::StoreError;
 use std::alloc::Allocator;
 
-/// A literal without its fact.
+/// A literal that has its fact's number, not the fact.
 #[derive(Clone, Copy, PartialEq, Eq)]
 pub(crate) struct Sign {
     pub(crate) number: u32,
@@ -28,7 +28,7 @@ impl Sign {
 pub(crate) struct Watches<A: Allocator + Copy> {
     /// For each literal the places of the clauses that watch it.
     lists: Vec<Vec<usize, A>, A>,
-    /// For each clause the two that it watches, if it does.
+    /// For each clause the two literals that it watches, if any.
     pairs: Vec<Option<(Sign, Sign)>, A>,
     alloc: A,
 }
@@ -80,7 +80,7 @@ impl<A: Allocator + Copy> Watches<A> {
         Ok(())
     }
 
-    /// The place of the clause at a place in a list.
+    /// The place of the clause at the cursor.
     pub(crate) fn get(&self, cursor: &Cursor) -> Option<usize> {
         let list = self.lists.get(cursor.sign.index())?;
         list.get(cursor.index).copied()

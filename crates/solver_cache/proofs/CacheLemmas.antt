@@ -2,36 +2,21 @@
 use Rattle.std.proofs.Common.{[], rules, ◌≡◌, Bool, true, false, cond, ℕ, ◌<◌, List, ◌∷◌}
 use Rattle.std.proofs.Common.{◌^◌, leb, ◌++◌, length, slice_get, is_some, Option, None, Some, take}
 use Rattle.std.proofs.Common.{drop, get_or, true≢false, ◌≤◌, ◌∙◌, ap, refl, sym, subst, arith}
-use Rattle.std.specs.List.{list_any}
-use Rattle.std.specs.Prelude.{◌&&◌, ◌||◌, not, All, Result, Ok, Err, OnErr, IfErr}
-use Rattle.std.specs.Result.{IsErrAnd}
-use Rattle.std.specs.Map.{lookup, values_of}
+use Rattle.std.specs.Prelude.{◌&&◌, ◌||◌, not}
 use Rattle.std.proofs.Math.Path.{fun_ext}
 use Rattle.std.proofs.Math.Seq.{take-append_seam, take-length}
 use Rattle.std.proofs.lemmas.List.{append-nil, take-append-drop, take-append-le, length-take}
 use Rattle.std.proofs.lemmas.Bool.Decides.{nat_tests}
 use Rattle.std.proofs.lemmas.List.Folds.{list_all_at, list_any_at}
 use Rattle.std.proofs.lemmas.List.Elements.{All-head, All-tail, All-push}
-use Rattle.typed_ids.specs.Refusals.{IsGrowthRefusal}
-use Rattle.typed_ids.specs.declared.error.StoreError.{StoreError}
-use Rattle.typed_ids.specs.declared.error.StoreError.TheVariants.{OutOfMemory, IdSpace}
-use Rattle.typed_ids.specs.declared.version_set_id.VersionSetId.{VersionSetId}
-use Rattle.providers.specs.Dependencies.{needs_of}
-use Rattle.providers.specs.Provider.{matching, non_matching, sorted, sets_of}
-use Rattle.providers.specs.contracts.requirement.RequirementPartialEq.TheImpl.{eq-value}
-use Rattle.providers.specs.declared.candidates.Candidates.{Candidates}
-use Rattle.providers.specs.declared.dependencies.Dependencies.{Dependencies}
-use Rattle.providers.specs.declared.requirement.Requirement.{Requirement}
-use Rattle.solver_cache.specs.Cache.{Cache, IsAnswer, IsCache, is_set_queried, is_cached, same_set}
-use Rattle.solver_cache.specs.Cache.{sorted_of, list_at}
-use Rattle.solver_cache.specs.declared.list_id.ListKind.TheVariants.{Matching, NonMatching, Sorted}
-use Rattle.providers.specs.Requirement.{same_requirement}
-use Rattle.providers.specs.declared.requirement.Requirement.TheVariants.{Single, Union}
-use Rattle.solver_cache.specs.Functions.{Provider, MayAnswer}
-use Rattle.solver_cache.specs.Questions.{BeginsWith, IsLater, IsOnce, IsSorted}
-use Rattle.solver_cache.specs.Questions.{AreSorted, IsRefusedOf, IsRefusedOfSets, lacks_candidates}
-use Rattle.solver_cache.specs.declared.error.CacheError.{CacheError}
-use Rattle.solver_cache.specs.declared.error.CacheError.TheVariants.{Store, Cancelled}
+use Rattle.solver_cache.proofs.Words.{All, AreSorted, BeginsWith, Cache, CacheError, Cancelled, Candidates}
+use Rattle.solver_cache.proofs.Words.{Dependencies, eq-value, Err, IdSpace, IfErr, is_cached, is_set_queried, IsAnswer}
+use Rattle.solver_cache.proofs.Words.{IsCache, IsErrAnd, IsGrowthRefusal, IsLater, IsOnce, IsRefusedOf, IsRefusedOfSets}
+use Rattle.solver_cache.proofs.Words.{IsSorted, lacks_candidates, list_any, lookup, Matching, matching, MayAnswer}
+use Rattle.solver_cache.proofs.Words.{needs_of, non_matching, NonMatching, Ok, OnErr, OutOfMemory, Provider}
+use Rattle.solver_cache.proofs.Words.{Requirement, Result, same_requirement, same_set, sets_of, Single, Sorted, sorted}
+use Rattle.solver_cache.proofs.Words.{sorted_of, Store, StoreError, Union, values_of, VersionSetId}
+use Rattle.solver_cache.specs.Cache.{list_at}
 
 -- ---- entries
 

@@ -1,16 +1,13 @@
 -- The laws that callers cite.
 use Rattle.std.proofs.Common.{◌≡◌, ℕ, ◌-◌, Bool, true, cond, List, ◌++◌, get_or, Option, None, Some}
 use Rattle.std.proofs.Common.{◌∙◌, ap, refl, sym, true≢false, arith, IsPermutation}
-use Rattle.std.specs.Prelude.{filter, not}
-use Rattle.std.specs.List.{position_from}
+use Rattle.std.specs.Prelude.{not}
 use Rattle.std.proofs.lemmas.List.Elements.{All-contains, filter_passes}
 use Rattle.std.proofs.lemmas.List.Sorted.{IsPermutation-refl, IsPermutation-remove, IsPermutation-trans}
 use Rattle.std.proofs.lemmas.List.Sorted.{IsPermutation-filter_both, sum_by-IsPermutation}
 use Rattle.std.proofs.lemmas.List.Sums.{sum_by-append}
-use Rattle.typed_ids.specs.declared.version_set_id.VersionSetId.{VersionSetId}
-use Rattle.providers.specs.Provider.{favored_first, from_place, matching}
-use Rattle.solver_cache.specs.Functions.{Provider}
-use Rattle.solver_cache.specs.CandidateLaws.{Divide, CandidatesDivide}
+use Rattle.solver_cache.proofs.Words.{CandidatesDivide, Divide, favored_first, filter, from_place, matching}
+use Rattle.solver_cache.proofs.Words.{position_from, Provider, VersionSetId}
 use Rattle.solver_cache.proofs.FavoredLemmas.{stands_there}
 
 -- a test divides a list

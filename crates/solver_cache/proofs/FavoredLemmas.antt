@@ -2,10 +2,9 @@
 use Rattle.std.proofs.Common.{◌≡◌, ℕ, ◌+◌, ◌-◌, ◌<◌, ◌≤◌, Bool, true, false, cond, List, [], ◌∷◌}
 use Rattle.std.proofs.Common.{◌++◌, length, take, drop, get_or, Some, suc, ap, sym, ◌∙◌, refl, arith}
 use Rattle.std.specs.Prelude.{None}
-use Rattle.std.specs.List.{position_from}
 use Rattle.std.proofs.Math.Seq.{take-append_seam, drop-append_seam}
 use Rattle.std.proofs.lemmas.List.{take_more, length-append}
-use Rattle.providers.specs.Provider.{from_place}
+use Rattle.solver_cache.proofs.Words.{from_place, position_from}
 
 module _ {S : Type 0} (same : S → S → Bool) (sameness : (a b : S) → same a b ≡ true → a ≡ b) (s : S) where
   -- at its first place it stands

@@ -1,14 +1,8 @@
 -- What a version set's question leaves: its package was asked for, and its list is kept.
 use Rattle.std.proofs.Common.{◌≡◌, Bool, true, false, List, [], ◌∷◌, ◌++◌, ap, refl, sym, subst}
-use Rattle.typed_ids.specs.Refusals.{IsGrowthRefusal}
-use Rattle.typed_ids.specs.declared.error.StoreError.{StoreError}
-use Rattle.typed_ids.specs.declared.error.StoreError.TheVariants.{OutOfMemory}
-use Rattle.typed_ids.specs.declared.version_set_id.VersionSetId.{VersionSetId}
-use Rattle.providers.specs.declared.candidates.Candidates.{Candidates}
-use Rattle.solver_cache.specs.Cache.{Cache, IsAnswer, is_queried}
-use Rattle.solver_cache.specs.Functions.{Provider, MayAnswer}
-use Rattle.solver_cache.specs.Hints.{hints_of}
-use Rattle.solver_cache.specs.Questions.{IsLater, IsOnce, IsMarked, IsQueried}
+use Rattle.solver_cache.proofs.Words.{Cache, Candidates, hints_of, is_queried, IsAnswer, IsGrowthRefusal, IsLater}
+use Rattle.solver_cache.proofs.Words.{IsMarked, IsOnce, IsQueried, MayAnswer, OutOfMemory, Provider, StoreError}
+use Rattle.solver_cache.proofs.Words.{VersionSetId}
 use Rattle.solver_cache.proofs.CacheLemmas.{begins_same, begins_more, later_trans}
 
 -- want of memory refuses any growth

@@ -1,9 +1,8 @@
 -- Hints that are marked in turn.
 use Rattle.std.proofs.Common.{◌≡◌, Bool, true, false, not, ◌||◌, List, [], ◌∷◌, ◌++◌, ◌∙◌, ap, refl, sym}
-use Rattle.std.specs.List.{list_any}
 use Rattle.std.specs.Prelude.{◌&&◌}
 use Rattle.std.proofs.lemmas.List.Folds.{list_any-append}
-use Rattle.solver_cache.specs.Hints.{with_hints}
+use Rattle.solver_cache.proofs.Words.{list_any, with_hints}
 
 either : (h a b n : Bool) → ((h || (a && n)) || (b && n)) ≡ (h || ((a || b) && n))
 either true a b n = refl

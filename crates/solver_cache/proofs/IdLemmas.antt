@@ -1,12 +1,9 @@
 -- When ids are left for answers.
 use Rattle.std.proofs.Common.{◌≡◌, ℕ, ◌<◌, ◌^◌, Bool, true, false, leb, List, get_or, refl, true≢false, arith}
-use Rattle.std.specs.List.{list_any}
-use Rattle.std.specs.Prelude.{◌&&◌, ◌||◌, All}
+use Rattle.std.specs.Prelude.{◌&&◌, ◌||◌}
 use Rattle.std.proofs.lemmas.Bool.Decides.{nat_tests}
 use Rattle.std.proofs.lemmas.List.Folds.{list_any_none}
-use Rattle.typed_ids.specs.declared.version_set_id.VersionSetId.{VersionSetId}
-use Rattle.solver_cache.specs.Cache.{Cache, IsCache, is_set_queried}
-use Rattle.solver_cache.specs.Functions.{Provider, MayAnswer}
+use Rattle.solver_cache.proofs.Words.{All, Cache, is_set_queried, IsCache, list_any, MayAnswer, Provider, VersionSetId}
 use Rattle.solver_cache.proofs.CacheLemmas.{some_of, found_right}
 
 -- only names that may be more than 2^32 use up all ids

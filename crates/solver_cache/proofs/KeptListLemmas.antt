@@ -1,13 +1,12 @@
 -- Lists that are kept by keys, in a table whose values hold more than the lists.
 use Rattle.std.proofs.Common.{◌≡◌, Bool, ℕ, List, [], ◌∷◌, ◌++◌, length, map, slice_get, is_some, Option, None, Some}
 use Rattle.std.proofs.Common.{option_map, ◌∙◌, ap, refl, sym}
-use Rattle.std.specs.Map.{lookup, values_of}
 use Rattle.std.proofs.lemmas.List.{length-map, map-append}
 use Rattle.std.proofs.lemmas.Map.Made.{lookup-map_values}
 use Rattle.std.proofs.lemmas.Option.{slice_get-map}
 use Rattle.indexmap.proofs.MapLemmas.{absent_from_lookup, or_len-absent}
 use Rattle.indexmap.proofs.CallerLemmas.{insert_entry-new}
-use Rattle.indexmap.specs.IndexMap.{IndexMap, insert_entry, insert_index}
+use Rattle.solver_cache.proofs.Words.{IndexMap, insert_entry, insert_index, lookup, values_of}
 
 same_some : {V L : Type 0} (list : V → L) (o : Option V) → is_some (option_map list o) ≡ is_some o
 same_some list None = refl

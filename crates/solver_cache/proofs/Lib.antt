@@ -10,3 +10,4 @@ pub mod RefusalLemmas
 pub mod SortingLemmas
 pub mod UnansweredLemmas
 pub mod UnionLemmas
+pub mod Words

@@ -1,16 +1,11 @@
 -- Where lists are kept: what later states and lists of places show.
 use Rattle.std.proofs.Common.{◌≡◌, ℕ, ◌<◌, Bool, List, [], ◌∷◌, ◌++◌, length, map, slice_get, Some, drop, ◌∙◌, ap}
 use Rattle.std.proofs.Common.{refl, sym, arith}
-use Rattle.std.specs.Prelude.{flat_map, unwrap_or}
-use Rattle.std.specs.Map.{values_of}
 use Rattle.std.proofs.lemmas.List.{map-append, take-append-drop, get_or_append_left, length-append}
 use Rattle.std.proofs.lemmas.Option.{slice_get_within, slice_get-get_or, get_or_from_slice_get}
-use Rattle.typed_ids.specs.declared.version_set_id.VersionSetId.{VersionSetId}
-use Rattle.solver_cache.specs.Cache.{Cache, list_at, listed, sorted_of_set, AreListed}
-use Rattle.solver_cache.specs.Functions.{Provider}
-use Rattle.solver_cache.specs.Questions.{BeginsWith, IsLater}
-use Rattle.solver_cache.specs.declared.list_id.ListKind.{ListKind}
-use Rattle.solver_cache.specs.declared.list_id.ListKind.TheVariants.{Matching, NonMatching, Sorted}
+use Rattle.solver_cache.proofs.Words.{AreListed, BeginsWith, Cache, flat_map, IsLater, listed, ListKind, Matching}
+use Rattle.solver_cache.proofs.Words.{NonMatching, Provider, Sorted, sorted_of_set, unwrap_or, values_of, VersionSetId}
+use Rattle.solver_cache.specs.Cache.{list_at}
 
 -- what stands in a list stands there with others behind it
 stays : {X : Type 0} (xs ys : List X) (i : ℕ) (x : X) → slice_get xs i ≡ Some x → slice_get (xs ++ ys) i ≡ Some x

@@ -1,17 +1,11 @@
 -- What a refusal tells of the cache that was asked.
 use Rattle.std.proofs.Common.{◌≡◌, Bool, true, false, List, [], ◌∷◌, ◌∙◌, ap, refl, sym, true≢false}
-use Rattle.std.specs.List.{list_any, list_all}
 use Rattle.std.specs.Prelude.{◌&&◌, ◌||◌, not}
-use Rattle.typed_ids.specs.declared.version_set_id.VersionSetId.{VersionSetId}
-use Rattle.solver_cache.specs.Cache.{Cache, is_queried, is_set_queried, is_fetched}
-use Rattle.solver_cache.specs.Functions.{Provider, MayAnswer}
-use Rattle.solver_cache.specs.Outcomes.{RefusesCandidates, RefusesFiltered, RefusesSorted, RefusesSets}
-use Rattle.solver_cache.specs.Outcomes.{RefusesDependencies}
-use Rattle.solver_cache.specs.Questions.{IsRefusal, IsRefusedOf, IsRefusedOfSets, lacks_candidates}
-use Rattle.solver_cache.specs.Questions.{lacks_dependencies, may_lack_candidates}
-use Rattle.solver_cache.specs.Refused.{MayRefuseName, MayRefuseSet, MayRefuseSets, MayRefuseNeeds}
-use Rattle.solver_cache.specs.declared.error.CacheError.{CacheError}
-use Rattle.solver_cache.specs.declared.error.CacheError.TheVariants.{Store, Cancelled}
+use Rattle.solver_cache.proofs.Words.{Cache, CacheError, Cancelled, is_fetched, is_queried, is_set_queried, IsRefusal}
+use Rattle.solver_cache.proofs.Words.{IsRefusedOf, IsRefusedOfSets, lacks_candidates, lacks_dependencies, list_all}
+use Rattle.solver_cache.proofs.Words.{list_any, may_lack_candidates, MayAnswer, MayRefuseName, MayRefuseNeeds}
+use Rattle.solver_cache.proofs.Words.{MayRefuseSet, MayRefuseSets, Provider, RefusesCandidates, RefusesDependencies}
+use Rattle.solver_cache.proofs.Words.{RefusesFiltered, RefusesSets, RefusesSorted, Store, VersionSetId}
 use Rattle.solver_cache.proofs.CacheLemmas.{refusal_wider}
 
 -- of one question

@@ -1,16 +1,8 @@
 -- What a requirement's question finds, and what it leaves.
 use Rattle.std.proofs.Common.{◌≡◌, Bool, true, false, List, [], ◌∷◌, ◌++◌, is_some, ◌∙◌, ap, refl, sym}
-use Rattle.std.specs.Map.{lookup}
-use Rattle.typed_ids.specs.declared.version_set_id.VersionSetId.{VersionSetId}
-use Rattle.providers.specs.Provider.{matching}
-use Rattle.providers.specs.Requirement.{same_requirement}
-use Rattle.providers.specs.contracts.requirement.RequirementPartialEq.TheImpl.{eq-value}
-use Rattle.providers.specs.declared.candidates.Candidates.{Candidates}
-use Rattle.providers.specs.declared.requirement.Requirement.{Requirement}
-use Rattle.solver_cache.specs.Cache.{Cache, IsAnswer, is_queried, is_cached, same_set}
-use Rattle.solver_cache.specs.Functions.{Provider, MayAnswer}
-use Rattle.solver_cache.specs.Hints.{hints_of}
-use Rattle.solver_cache.specs.Questions.{IsLater, IsOnce, IsMarked, IsQueried, IsMatched}
+use Rattle.solver_cache.proofs.Words.{Cache, Candidates, eq-value, hints_of, is_cached, is_queried, IsAnswer, IsLater}
+use Rattle.solver_cache.proofs.Words.{IsMarked, IsMatched, IsOnce, IsQueried, lookup, matching, MayAnswer, Provider}
+use Rattle.solver_cache.proofs.Words.{Requirement, same_requirement, same_set, VersionSetId}
 use Rattle.solver_cache.proofs.CacheLemmas.{begins_same, begins_more, later_trans, same_is}
 
 -- a requirement that isn't found isn't kept

@@ -2,13 +2,8 @@
 use Rattle.std.proofs.Common.{◌≡◌, ℕ, ◌<◌, ◌+◌, Bool, List, [], ◌∷◌, ◌++◌, length, take, drop, get_or, ◌∙◌, ap, refl}
 use Rattle.std.proofs.Common.{sym, subst, inl, inr}
 use Rattle.std.proofs.lemmas.List.{append-nil, append_assoc, take_more, take-append-drop}
-use Rattle.typed_ids.specs.declared.version_set_id.VersionSetId.{VersionSetId}
-use Rattle.solver_cache.specs.Cache.{Cache, is_set_queried}
-use Rattle.solver_cache.specs.Functions.{Provider, MayAnswer}
-use Rattle.solver_cache.specs.Questions.{AreSorted, IsRefusedOf}
-use Rattle.solver_cache.specs.Unanswered.{IsUnsorted, AreUnsorted, AreStopped, AreCutShort}
-use Rattle.solver_cache.specs.declared.error.CacheError.{CacheError}
-use Rattle.solver_cache.specs.declared.error.CacheError.TheVariants.{Store, Cancelled}
+use Rattle.solver_cache.proofs.Words.{AreCutShort, AreSorted, AreStopped, AreUnsorted, Cache, CacheError, Cancelled}
+use Rattle.solver_cache.proofs.Words.{is_set_queried, IsRefusedOf, IsUnsorted, MayAnswer, Provider, Store, VersionSetId}
 
 module _ {D N S A H : Type 0} (p : Provider N S) (may : MayAnswer N S A) (has : H → S → Bool) where
   -- nothing changed

@@ -2,18 +2,10 @@
 use Rattle.std.proofs.Common.{[], ◌≡◌, Bool, true, false, cond, List, ◌∷◌}
 use Rattle.std.proofs.Common.{◌++◌, is_some, Option, None, Some}
 use Rattle.std.proofs.Common.{◌∙◌, ap, refl}
-use Rattle.std.specs.Map.{lookup}
-use Rattle.typed_ids.specs.declared.version_set_id.VersionSetId.{VersionSetId}
-use Rattle.typed_ids.specs.declared.version_set_union_id.VersionSetUnionId.{VersionSetUnionId}
-use Rattle.providers.specs.Provider.{matching, sorted}
-use Rattle.providers.specs.declared.candidates.Candidates.{Candidates}
-use Rattle.solver_cache.specs.Cache.{Cache, IsAnswer, is_queried, is_cached, same_set}
-use Rattle.providers.specs.Requirement.{same_requirement}
-use Rattle.providers.specs.declared.requirement.Requirement.TheVariants.{Single, Union}
-use Rattle.solver_cache.specs.Functions.{Provider, MayAnswer}
-use Rattle.solver_cache.specs.Hints.{hints_of}
-use Rattle.solver_cache.specs.Questions.{IsOnce, IsMarked, IsQueried, IsMatched, IsSorted}
-use Rattle.solver_cache.specs.Questions.{AreSorted}
+use Rattle.solver_cache.proofs.Words.{AreSorted, Cache, Candidates, hints_of, is_cached, is_queried, IsAnswer, IsMarked}
+use Rattle.solver_cache.proofs.Words.{IsMatched, IsOnce, IsQueried, IsSorted, lookup, matching, MayAnswer, Provider}
+use Rattle.solver_cache.proofs.Words.{same_requirement, same_set, Single, sorted, Union, VersionSetId}
+use Rattle.solver_cache.proofs.Words.{VersionSetUnionId}
 
 pub none_of : {X : Type 0} (o : Option X) → is_some o ≡ false → o ≡ None
 none_of None h = refl

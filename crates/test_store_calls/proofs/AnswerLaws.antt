@@ -2,25 +2,15 @@
 -- changes nothing.
 use Rattle.std.proofs.Common.{◌≡◌, ℕ, Bool, true, false, cond, not, List, [], ◌∷◌, ◌++◌, Option, None, Some, length}
 use Rattle.std.proofs.Common.{refl, sym, subst, ap, ◌∙◌}
-use Rattle.std.specs.Prelude.{Result, Ok, Err, OnOk, OnErr, IfErr, MatchOption, option_map}
-use Rattle.std.specs.Bool.{beq}
-use Rattle.resolvo_ids.specs.Types.StoreError.{StoreError}
-use Rattle.resolvo_pool.specs.Types.Requirement.{Requirement}
-use Rattle.resolvo_clauses.specs.Trail.{Entry, val}
-use Rattle.resolvo_queue.specs.declared.requires_clause.RequiresClause.{RequiresClause}
-use Rattle.resolvo_queue.specs.declared.offer.Offer.{Offer}
-use Rattle.resolvo_store.specs.declared.answers.Assignment.{Assignment}
-use Rattle.resolvo_store.specs.declared.answers.Assignment.TheVariants as Made
-use Rattle.resolvo_store.specs.Answers.{assignment}
-use Rattle.resolvo_store.specs.Command.{Command, Load, Requires, Assign, Decide, LoadedAs, ClauseIs, Already, Clash}
-use Rattle.resolvo_store.specs.Command.{Falsified, Refused, is_saturate}
-use Rattle.resolvo_store.specs.Outcome.{adds_clause, assign_reply, assigned, decision, falsified_clause, picked}
-use Rattle.resolvo_store.specs.Outcome.{with_registered}
-use Rattle.resolvo_store.specs.Refusals.{first_refusal}
-use Rattle.resolvo_store.specs.Step.{IsAnswered, Step}
-use Rattle.resolvo_store.specs.Store.{Store, values, lists_of}
 use Rattle.resolvo_store.proofs.CallerLaws.{answered_by_outcome, load_adds_no_clause, assigned_value, clashing_value}
 use Rattle.resolvo_store.proofs.RunLemmas.{has_outcome}
+use Rattle.test_store_calls.proofs.Words.{adds_clause, Already, Assign, assign_reply, assigned, Assignment, assignment}
+use Rattle.test_store_calls.proofs.Words.{beq, Clash, ClauseIs, Command, Decide, decision, Entry, Err, Falsified}
+use Rattle.test_store_calls.proofs.Words.{falsified_clause, first_refusal, IfErr, is_saturate, IsAnswered, lists_of}
+use Rattle.test_store_calls.proofs.Words.{Load, LoadedAs, MatchOption, Offer, Ok, OnErr, OnOk, option_map, picked}
+use Rattle.test_store_calls.proofs.Words.{Refused, Requirement, Requires, RequiresClause, Result, Step, Store}
+use Rattle.test_store_calls.proofs.Words.{StoreError, val, values, with_registered}
+use Rattle.resolvo_store.specs.declared.answers.Assignment.TheVariants as Made
 
 -- whether the variable has the value that was given
 abbrev pub is_given : Assignment → Bool

@@ -1,31 +1,19 @@
 -- What a command tells that is answered by a clause.
 use Rattle.std.proofs.Common.{◌≡◌, ℕ, ◌<◌, ◌+◌, Bool, true, false, cond, arith, List, [], ◌∷◌, Option, None, Some}
 use Rattle.std.proofs.Common.{length, length-append, ap, sym, ◌∙◌, subst}
-use Rattle.std.specs.Bool.{beq}
-use Rattle.std.specs.Prelude.{◌++◌, nat_eq, slice_get, option_map, IsSome, IfSome, IfOk, Result, MatchOption, refl}
+use Rattle.std.specs.Prelude.{◌++◌, refl}
 use Rattle.std.proofs.lemmas.Result.{IfOk-weaker}
-use Rattle.resolvo_ids.specs.Types.StringId.{StringId}
-use Rattle.resolvo_ids.specs.Types.StoreError.{StoreError}
-use Rattle.resolvo_clauses.specs.Literals.{Lit, Neg}
-use Rattle.resolvo_clauses.specs.Trail.{Entry}
-use Rattle.resolvo_clauses.specs.AtMostOne.{is_tracked}
-use Rattle.resolvo_clauses.specs.Clauses.{literals_of}
-use Rattle.resolvo_clauses.specs.Types.Clause.{Clause}
-use Rattle.resolvo_clauses.specs.Types.Clause.TheVariants as Kind
-use Rattle.resolvo_queue.specs.declared.requires_clause.RequiresClause.{RequiresClause}
-use Rattle.resolvo_queue.specs.declared.offer.Offer.{Offer}
-use Rattle.resolvo_store.specs.declared.helper_origin.HelperOrigin.{HelperOrigin}
-use Rattle.resolvo_store.specs.Command.{Command, Helper, Load, Requires, Root, Constrains, ConstrainsExcluded}
-use Rattle.resolvo_store.specs.Command.{ConstrainsParent, Lock, Exclude, AnyOf, Learnt, AtMostOnce, Assign}
-use Rattle.resolvo_store.specs.Command.{Unpropagated, Saturate, Decide, Reply, VariableIs, ClauseIs}
-use Rattle.resolvo_store.specs.Command.{TrackedAs, Already, Clash, Refused}
-use Rattle.resolvo_store.specs.Store.{Store, values, lists_of, stored_of}
-use Rattle.resolvo_store.specs.Refusals.{first_refusal}
-use Rattle.resolvo_store.specs.Outcome.{Outcome, outcome, helper_origin, load, adds_clause}
-use Rattle.resolvo_store.specs.Outcome.{with_registered, with_learnt, hands_next, assign_reply}
-use Rattle.resolvo_store.specs.Outcome.{decision, falsified_clause, picked, tracking, with_tracked}
-use Rattle.resolvo_store.specs.Step.{IsAnswered, Step}
 use Rattle.resolvo_store.proofs.CallerLaws.{answered_by_outcome}
+use Rattle.test_store_calls.proofs.Words.{adds_clause, Already, AnyOf, Assign, assign_reply, AtMostOnce, beq, Clash}
+use Rattle.test_store_calls.proofs.Words.{Clause, ClauseIs, Command, Constrains, ConstrainsExcluded, ConstrainsParent}
+use Rattle.test_store_calls.proofs.Words.{Decide, decision, Entry, Exclude, falsified_clause, first_refusal, hands_next}
+use Rattle.test_store_calls.proofs.Words.{Helper, helper_origin, HelperOrigin, IfOk, IfSome, is_tracked, IsAnswered}
+use Rattle.test_store_calls.proofs.Words.{IsSome, Learnt, lists_of, Lit, literals_of, Load, load, Lock, MatchOption}
+use Rattle.test_store_calls.proofs.Words.{nat_eq, Neg, Offer, option_map, Outcome, outcome, picked, Refused, Reply}
+use Rattle.test_store_calls.proofs.Words.{Requires, RequiresClause, Result, Root, Saturate, slice_get, Step, Store}
+use Rattle.test_store_calls.proofs.Words.{stored_of, StoreError, StringId, TrackedAs, tracking, Unpropagated, values}
+use Rattle.test_store_calls.proofs.Words.{VariableIs, with_learnt, with_registered, with_tracked}
+use Rattle.resolvo_clauses.specs.Types.Clause.TheVariants as Kind
 
 -- what is found, where something is there
 module _ {X E : Type 0} (r : Result (Option X) E) (f : X → List Lit) (there : Option (List Lit)) (ls : List Lit) where

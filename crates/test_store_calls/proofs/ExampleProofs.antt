@@ -1,6 +1,6 @@
 -- Each example is computed.
 use Rattle.std.proofs.Common.{refl}
-use Rattle.test_store_calls.specs.Examples.{Examples}
+use Rattle.test_store_calls.proofs.Words.{Examples}
 use Rattle.test_store_calls.proofs.SaturationProofs.{saturation_examples}
 
 pub examples : Examples

@@ -5,3 +5,4 @@ pub mod LoadLaws
 pub mod PlayLaws
 pub mod SaturationProofs
 pub mod StayingLaws
+pub mod Words

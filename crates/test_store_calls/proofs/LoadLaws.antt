@@ -1,16 +1,9 @@
 -- What a Load answers.
 use Rattle.std.proofs.Common.{◌≡◌, ℕ, List, length, map, Option, None, Some, ◌∙◌, ap, subst}
-use Rattle.std.specs.Prelude.{MatchOption}
 use Rattle.std.proofs.lemmas.List.{length-map}
-use Rattle.resolvo_ids.specs.Types.StoreError.{StoreError}
-use Rattle.resolvo_pool.specs.Provider.{sets_of}
-use Rattle.resolvo_pool.specs.Types.Requirement.{Requirement}
-use Rattle.resolvo_clauses.specs.Variables.{interned_variable}
-use Rattle.resolvo_store.specs.Command.{Load, Reply, LoadedAs, Refused}
-use Rattle.resolvo_store.specs.Store.{Store, lists_of, candidates_of}
-use Rattle.resolvo_store.specs.Refusals.{first_refusal}
-use Rattle.resolvo_store.specs.Outcome.{load, origins_loaded, variables_loaded}
-use Rattle.resolvo_store.specs.Step.{IsAnswered, Step}
+use Rattle.test_store_calls.proofs.Words.{candidates_of, first_refusal, interned_variable, IsAnswered, lists_of, Load}
+use Rattle.test_store_calls.proofs.Words.{load, LoadedAs, MatchOption, origins_loaded, Refused, Reply, Requirement}
+use Rattle.test_store_calls.proofs.Words.{sets_of, Step, Store, StoreError, variables_loaded}
 
 -- a requirement that wasn't loaded is answered one list a version set
 pub one_list_each : {N S : Type 0} (old new : Store N S) (r : Requirement) (reply : Reply) →

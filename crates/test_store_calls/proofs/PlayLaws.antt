@@ -1,24 +1,15 @@
 -- What is computed is a run.
 use Rattle.std.proofs.Common.{◌≡◌, ℕ, Bool, true, false, cond, ◌||◌, List, [], ◌∷◌, length, Option, Some, None, refl}
 use Rattle.std.proofs.Common.{ap}
-use Rattle.std.specs.Bool.{beq}
-use Rattle.std.specs.Prelude.{nat_eq, slice_get, MatchOption}
 use Rattle.std.proofs.lemmas.List.Elements.{All-head, All-tail}
-use Rattle.resolvo_ids.specs.Types.StoreError.{StoreError}
-use Rattle.resolvo_ids.specs.Types.StoreError.TheVariants.{IdSpace}
-use Rattle.resolvo_clauses.specs.Trail.{Entry}
-use Rattle.resolvo_clauses.specs.AtMostOne.{is_tracked}
-use Rattle.resolvo_queue.specs.declared.requires_clause.RequiresClause.{RequiresClause}
-use Rattle.resolvo_queue.specs.declared.offer.Offer.{Offer}
-use Rattle.resolvo_store.specs.Command.{Command, Load, AtMostOnce, Assign, Unpropagated, Decide, Reply}
-use Rattle.resolvo_store.specs.Command.{TrackedAs, Already, Clash, Refused, IsRefused, is_saturate}
-use Rattle.resolvo_store.specs.Store.{Store, values, lists_of}
-use Rattle.resolvo_store.specs.Refusals.{first_refusal}
-use Rattle.resolvo_store.specs.Outcome.{Outcome, outcome, load, hands_next, assign_reply, decision, falsified_clause}
-use Rattle.resolvo_store.specs.Outcome.{picked, tracking, with_tracked}
-use Rattle.resolvo_store.specs.Step.{HasOutcome, IsAnswered, Step, lacks_ids, may_use_up_answers}
 use Rattle.resolvo_store.proofs.RunLemmas.{is_answered}
-use Rattle.test_store_calls.specs.Play.{answered, answer, PlayIsRun}
+use Rattle.test_store_calls.proofs.Words.{Already, answer, answered, Assign, assign_reply, AtMostOnce, beq, Clash}
+use Rattle.test_store_calls.proofs.Words.{Command, Decide, decision, Entry, falsified_clause, first_refusal, hands_next}
+use Rattle.test_store_calls.proofs.Words.{HasOutcome, IdSpace, is_saturate, is_tracked, IsAnswered, IsRefused}
+use Rattle.test_store_calls.proofs.Words.{lacks_ids, lists_of, Load, load, MatchOption, may_use_up_answers, nat_eq}
+use Rattle.test_store_calls.proofs.Words.{Offer, Outcome, outcome, picked, PlayIsRun, Refused, Reply, RequiresClause}
+use Rattle.test_store_calls.proofs.Words.{slice_get, Step, Store, StoreError, TrackedAs, tracking, Unpropagated, values}
+use Rattle.test_store_calls.proofs.Words.{with_tracked}
 
 module _ {N S : Type 0} where
   -- no outcome is a refusal

@@ -1,10 +1,8 @@
 -- Each example of a Saturate is computed.
 use Rattle.std.proofs.Common.{[], ◌∷◌, ◌++◌, false, refl, arith}
 use Rattle.resolvo_store.proofs.SettledLaws.{settled_if}
-use Rattle.resolvo_store.specs.Command.{Assign, UndoUntil}
-use Rattle.test_store_calls.specs.ExampleWords.{two_versions}
-use Rattle.test_store_calls.specs.SaturationExamples.{SaturationExamples, state_after, no_version, with_implied}
-use Rattle.test_store_calls.specs.SaturationExamples.{with_root, without_candidates}
+use Rattle.test_store_calls.proofs.Words.{Assign, no_version, SaturationExamples, state_after, two_versions, UndoUntil}
+use Rattle.test_store_calls.proofs.Words.{with_implied, with_root, without_candidates}
 
 pub saturation_examples : SaturationExamples
 saturation_examples = record {

@@ -1,13 +1,10 @@
 -- What loads answer while other commands are obeyed.
 use Rattle.std.proofs.Common.{◌≡◌, List, ◌∙◌, sym, subst}
-use Rattle.resolvo_pool.specs.Types.Requirement.{Requirement}
-use Rattle.resolvo_store.specs.Command.{Command, Load, Reply, LoadedAs, IsRefused}
-use Rattle.resolvo_store.specs.Growth.{AreCandidates, candidate_variables}
-use Rattle.resolvo_store.specs.Step.{Step}
-use Rattle.resolvo_store.specs.Store.{Store, Provider}
 use Rattle.resolvo_store.proofs.CandidateLaws.{AreCandidates-step, load_answers, load_again, load_candidates}
 use Rattle.resolvo_store.proofs.KeepingLaws.{OnlyGrows-step, lists_stay}
 use Rattle.resolvo_store.proofs.KnownLemmas.{IsLawful}
+use Rattle.test_store_calls.proofs.Words.{AreCandidates, candidate_variables, Command, IsRefused, Load, LoadedAs}
+use Rattle.test_store_calls.proofs.Words.{Provider, Reply, Requirement, Step, Store}
 
 module _ {N S : Type 0} (start loaded between end : Store N S) (r : Requirement) (c : Command N S)
     (before reply after : Reply)

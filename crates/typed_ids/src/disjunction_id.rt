@@ -8,7 +8,7 @@ use std::marker::Model;
 /// How many ids there are: 2^32 - 1.
 const COUNT: usize = 4294967295;
 
-/// The literals of a condition, kept by a store.
+/// The literals for one list of a condition's normal form, kept by a store.
 #[derive(Clone, Copy, Debug, PartialEq, Eq, PartialOrd, Ord, Hash)]
 pub struct DisjunctionId(u32);
 

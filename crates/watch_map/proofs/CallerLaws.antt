@@ -1,17 +1,12 @@
 -- The laws for callers hold.
 use Rattle.std.proofs.Common.{◌≡◌, ◌≢◌, ℕ, zero, suc, true, false, nat_eq, List, [], ◌∷◌, ◌++◌, Some, length, sym, ap}
 use Rattle.std.proofs.Common.{refl, subst, ◌∙◌}
-use Rattle.std.specs.List.{IsDistinct}
-use Rattle.decisions.specs.Literals.{Lit}
-use Rattle.decisions.specs.LiteralIndex.{literal_index}
-use Rattle.id_storage.specs.Mapping.{value_at}
-use Rattle.watch_map.specs.declared.watched_literals.WatchedLiterals.{WatchedLiterals}
-use Rattle.watch_map.specs.Laws.{SameRecordsBelong, RecordsGrow, NewClausesJoin, RecordsSkip}
-use Rattle.watch_map.specs.Laws.{RoomIsForFewer, CursorsDivide, ClausesAreVisitedOnce, CursorsOutliveRoom}
-use Rattle.watch_map.specs.Watching.{is_clause_in, before, started}
-use Rattle.watch_map.specs.WatchLists.{Watches, record_of, literals_in, watched_by, next_in, link}
-use Rattle.watch_map.specs.WatchLists.{IsChain, watchers, HasRoom, IsPrevious, literal_of, clause_of}
-use Rattle.watch_map.specs.WatchCalls.{Starts, passed, rest}
+use Rattle.watch_map.proofs.Words.{before, clause_of, ClausesAreVisitedOnce, CursorsDivide, CursorsOutliveRoom, HasRoom}
+use Rattle.watch_map.proofs.Words.{is_clause_in, IsChain, IsDistinct, IsPrevious, link, Lit, literal_index, literal_of}
+use Rattle.watch_map.proofs.Words.{NewClausesJoin, next_in, passed, record_of, RecordsGrow, RecordsSkip, rest}
+use Rattle.watch_map.proofs.Words.{RoomIsForFewer, SameRecordsBelong, started, Starts, value_at, watched_by}
+use Rattle.watch_map.proofs.Words.{WatchedLiterals, watchers, Watches}
+use Rattle.watch_map.specs.WatchLists.{literals_in}
 use Rattle.watch_map.proofs.WatchingLaws.{split, exact_same, distinct_head, distinct_tail}
 use Rattle.watch_map.proofs.ChainLaws.{chain_same}
 use Rattle.watch_map.proofs.LinkLaws.{lists_made}

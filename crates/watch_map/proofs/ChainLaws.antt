@@ -1,8 +1,7 @@
 -- Chains of clauses, each of which tells the next one.
 use Rattle.std.proofs.Common.{◌≡◌, ℕ, zero, suc, ◌≤◌, Bool, true, false, ◌||◌, nat_eq, List, [], ◌∷◌, ◌++◌, Option}
 use Rattle.std.proofs.Common.{length, sym, ap, refl, subst, arith}
-use Rattle.watch_map.specs.Watching.{is_clause_in}
-use Rattle.watch_map.specs.WatchLists.{chain, IsChain}
+use Rattle.watch_map.proofs.Words.{chain, is_clause_in, IsChain}
 use Rattle.watch_map.proofs.WatchingLaws.{eqb_self}
 
 or_true : (b : Bool) → (b || true) ≡ true

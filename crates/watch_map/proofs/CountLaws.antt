@@ -1,14 +1,11 @@
 -- How many literals have clauses.
 use Rattle.std.proofs.Common.{◌≡◌, ℕ, zero, suc, ◌≤◌, ◌+◌, Bool, true, false, cond, nat_eq, List, []}
 use Rattle.std.proofs.Common.{◌∷◌, Option, Some, None, is_some, length, sym, ap, refl, subst, ◌∙◌, arith}
-use Rattle.std.specs.Prelude.{count_by}
 use Rattle.std.proofs.lemmas.List.Sums.{sum_by-cons}
 use Rattle.std.proofs.lemmas.Bool.Decides.{nat_tests}
-use Rattle.decisions.specs.Literals.{Lit}
-use Rattle.decisions.specs.LiteralIndex.{literal_index, literal_at, literal_index-literal_at}
-use Rattle.id_storage.specs.Mapping.{value_at, value_count}
-use Rattle.watch_map.specs.WatchLists.{WatchLists, Watches, watchers, link, IsChain, AreWatched}
-use Rattle.watch_map.specs.Watching.{count_lists, IsListCount}
+use Rattle.watch_map.proofs.Words.{AreWatched, count_by, count_lists, IsChain, IsListCount, link, Lit, literal_at}
+use Rattle.watch_map.proofs.Words.{literal_index, literal_index-literal_at, value_at, value_count, watchers, Watches}
+use Rattle.watch_map.proofs.Words.{WatchLists}
 
 -- the numbers below a bound added up, the last one first
 sum_below : ℕ → (ℕ → ℕ) → ℕ

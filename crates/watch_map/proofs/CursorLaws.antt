@@ -1,16 +1,9 @@
 -- A cursor at a clause of a chain.
 use Rattle.std.proofs.Common.{◌≡◌, ℕ, ◌<◌, true, nat_eq, List, [], ◌∷◌, ◌++◌, Option, Some, None, length}
 use Rattle.std.proofs.Common.{slice_index_or, sym, ap, refl, subst, ◌∙◌}
-use Rattle.std.specs.List.{IsDistinct}
-use Rattle.std.specs.Prelude.{IfSome}
-use Rattle.decisions.specs.Literals.{Lit}
-use Rattle.watch_map.specs.WatchLists.{Position}
-use Rattle.watch_map.specs.declared.nodes.WatchNode.{WatchNode}
-use Rattle.watch_map.specs.Watching.{is_literal_in, is_clause_in, before, behind}
-use Rattle.watch_map.specs.WatchLists.{WatchLists, Watches, watched_by}
-use Rattle.watch_map.specs.WatchLists.{link, IsChain, watchers, AreWatched}
-use Rattle.watch_map.specs.WatchLists.{IsPrevious, IsCursorAt, clause_of, index_of}
-use Rattle.watch_map.specs.WatchCalls.{StandsBehind, IsReached, remaining}
+use Rattle.watch_map.proofs.Words.{AreWatched, before, behind, clause_of, IfSome, index_of, is_clause_in, is_literal_in}
+use Rattle.watch_map.proofs.Words.{IsChain, IsCursorAt, IsDistinct, IsPrevious, IsReached, link, Lit, Position}
+use Rattle.watch_map.proofs.Words.{remaining, StandsBehind, watched_by, watchers, Watches, WatchLists, WatchNode}
 use Rattle.watch_map.proofs.WatchingLaws.{parts}
 use Rattle.watch_map.proofs.ChainLaws.{in_middle}
 

@@ -5,14 +5,10 @@ use Rattle.std.proofs.Common.{append_assoc, append-nil, length-append}
 use Rattle.std.proofs.lemmas.Bool.{and_parts, and_from, or_left, or_right, false_from_ne_true}
 use Rattle.std.proofs.lemmas.List.{take-append-le}
 use Rattle.std.proofs.Math.Seq.{drop-append_seam}
-use Rattle.decisions.specs.Literals.{Lit, Values, variable_of, satisfying_value, truth, undecided, is_false_literal}
-use Rattle.decisions.specs.declared.decision.Decision.{Decision}
-use Rattle.decisions.specs.Trail.{Entry, Trail, val, level_of}
-use Rattle.clauses.specs.Clauses.{same_literal}
-use Rattle.watch_map.specs.Watching.{is_literal_in}
-use Rattle.watch_map.specs.Implication.{are_others_false, is_unit, decided_literal, IsImplied, AreImplied}
-use Rattle.watch_map.specs.Saturation.{HasImplied}
-use Rattle.watch_map.specs.WatchInvariant.{Extends, is_true_literal, is_true, val_before}
+use Rattle.watch_map.proofs.Words.{are_others_false, AreImplied, decided_literal, Decision, Entry, Extends, HasImplied}
+use Rattle.watch_map.proofs.Words.{is_false_literal, is_literal_in, is_true, is_true_literal, is_unit, IsImplied}
+use Rattle.watch_map.proofs.Words.{level_of, Lit, same_literal, satisfying_value, Trail, truth, undecided, val}
+use Rattle.watch_map.proofs.Words.{val_before, Values, variable_of}
 use Rattle.watch_map.proofs.WatchingLaws.{same_is}
 use Rattle.watch_map.proofs.LiteralLists.{by_test, all_at, all_from, any_at, passes_of}
 use Rattle.watch_map.proofs.OpenClauses.{count_open, count_less}

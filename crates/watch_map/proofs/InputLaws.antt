@@ -1,14 +1,8 @@
 -- The literals of clauses that a saturation is given.
 use Rattle.std.proofs.Common.{◌≡◌, ℕ, zero, suc, ◌<◌, true, false, List, [], ◌∷◌, length, Some, None, ap, arith}
-use Rattle.std.specs.Prelude.{slice_get, option_map, unwrap_or}
-use Rattle.decisions.specs.Literals.{Lit}
-use Rattle.clauses.specs.declared.clause.Clause.{Clause}
-use Rattle.clauses.specs.Clauses.{StoredLiterals, literals_of}
-use Rattle.clauses.specs.Stored.{stored_in}
-use Rattle.watch_map.specs.Watching.{is_literal_in}
-use Rattle.watch_map.specs.Saturation.{literals_from}
+use Rattle.watch_map.proofs.Words.{Clause, is_literal_in, Lit, literals_from, literals_of, option_map, SaturationInput}
+use Rattle.watch_map.proofs.Words.{slice_get, stored_in, StoredLiterals, unwrap_or}
 use Rattle.watch_map.specs.Visits.{literals_at}
-use Rattle.watch_map.specs.declared.saturation.input.SaturationInput.{SaturationInput}
 
 -- a clause with a literal is there
 pub literals_within : {N : Type 0} (k : StoredLiterals) (cs : List (Clause N)) (c : ℕ) (l : Lit)

@@ -1,16 +1,11 @@
 -- The largest variable of clauses: where there is room for its literals, there is room for those of all.
 use Rattle.std.proofs.Common.{◌≡◌, ℕ, zero, suc, ◌+◌, ◌<◌, ◌≤◌, Bool, true, false, ◌||◌, cond, List, [], ◌∷◌}
 use Rattle.std.proofs.Common.{Some, None, length, take, get_or, refl, sym, ap, subst, ◌∙◌, arith}
-use Rattle.std.specs.Prelude.{fold, if◌then◌else◌, All, OnOk, Result, Ok, Err}
-use Rattle.typed_ids.specs.declared.error.StoreError.{StoreError}
+use Rattle.std.specs.Prelude.{if◌then◌else◌, Result, Ok, Err}
 use Rattle.std.proofs.lemmas.List.Sums.{fold_more}
-use Rattle.decisions.specs.Literals.{Lit, Pos, Neg, variable_of}
-use Rattle.clauses.specs.Clauses.{same_literal, watch_pair}
-use Rattle.watch_map.specs.Watching.{is_literal_in}
-use Rattle.watch_map.specs.WatchLists.{WatchLists, HasRoom}
-use Rattle.watch_map.specs.WatchCalls.{HaveRooms}
-use Rattle.watch_map.specs.ClauseList.{helper_literal, bit_watches, two_or_none}
-use Rattle.watch_map.specs.Walks.{larger_variable, largest_variable}
+use Rattle.watch_map.proofs.Words.{All, bit_watches, fold, HasRoom, HaveRooms, helper_literal, is_literal_in}
+use Rattle.watch_map.proofs.Words.{larger_variable, largest_variable, Lit, Neg, OnOk, Pos, same_literal, StoreError}
+use Rattle.watch_map.proofs.Words.{two_or_none, variable_of, watch_pair, WatchLists}
 use Rattle.watch_map.proofs.WatchingLaws.{same_is}
 
 -- ---- the largest

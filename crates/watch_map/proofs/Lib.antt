@@ -24,3 +24,4 @@ mod VisitLaws
 mod WalkLaws
 mod WatchLemmas
 pub mod WatchingLaws
+pub mod Words

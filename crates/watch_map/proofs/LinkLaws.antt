@@ -3,14 +3,10 @@ use Rattle.std.proofs.Common.{◌≡◌, ◌≢◌, ℕ, zero, suc, ◌<◌, Boo
 use Rattle.std.proofs.Common.{[], ◌∷◌, Option, Some, None, length, slice_index_or, set, sym}
 use Rattle.std.proofs.Common.{refl, subst, ◌∙◌, arith, get_or-set_same, get_or-set_other}
 use Rattle.std.proofs.lemmas.List.{length-set}
-use Rattle.decisions.specs.Literals.{Lit}
-use Rattle.decisions.specs.LiteralIndex.{literal_index}
-use Rattle.id_storage.specs.Mapping.{value_at}
-use Rattle.watch_map.specs.declared.watched_literals.WatchedLiterals.{WatchedLiterals}
-use Rattle.clauses.specs.Clauses.{same_literal}
-use Rattle.watch_map.specs.Watching.{is_literal_in, AreTwoOrNone, IsExact}
-use Rattle.watch_map.specs.WatchLists.{WatchLists, Watches, literals_in, watched_by, link_for, next_in, next_at}
-use Rattle.watch_map.specs.WatchLists.{link, IsChain, watchers, HasTwoLinks, HasRoom, with_next, with_watch}
+use Rattle.watch_map.proofs.Words.{AreTwoOrNone, HasRoom, HasTwoLinks, is_literal_in, IsChain, IsExact, link, link_for}
+use Rattle.watch_map.proofs.Words.{Lit, literal_index, next_at, next_in, same_literal, value_at, watched_by}
+use Rattle.watch_map.proofs.Words.{WatchedLiterals, watchers, Watches, WatchLists, with_next, with_watch}
+use Rattle.watch_map.specs.WatchLists.{literals_in}
 use Rattle.watch_map.proofs.WatchingLaws.{same_self, same_swap, few}
 use Rattle.watch_map.proofs.ChainLaws.{chain_is}
 

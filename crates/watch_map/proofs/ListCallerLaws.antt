@@ -3,12 +3,9 @@ use Rattle.std.proofs.Common.{◌≡◌, ◌≢◌, ℕ, zero, suc, ◌<◌, ◌
 use Rattle.std.proofs.Common.{◌++◌, length, slice_index_or, set, refl, sym, ap, subst, ◌∙◌, arith, nat_eq}
 use Rattle.std.proofs.lemmas.Bool.{eqb-true, eqb-false}
 use Rattle.std.proofs.lemmas.List.{get_or-set_same, get_or-set_other}
-use Rattle.typed_ids.specs.TotalMaps.{IsUpdate}
-use Rattle.decisions.specs.Literals.{Lit}
-use Rattle.clauses.specs.Clauses.{same_literal}
-use Rattle.watch_map.specs.Watching.{is_literal_in, AreTwoOrNone, IsExact, started, moved}
+use Rattle.watch_map.proofs.Words.{AreTwoOrNone, is_literal_in, IsExact, IsUpdate, Lit, moved, rewatched, same_literal}
+use Rattle.watch_map.proofs.Words.{started}
 use Rattle.watch_map.proofs.WatchingLaws.{same_self, same_swap, same_is, exact_same, started_exact, moved_exact}
-use Rattle.watch_map.specs.ClauseList.{rewatched}
 
 -- ---- what clauses watch, as a list
 

@@ -2,11 +2,7 @@
 use Rattle.std.proofs.Common.{◌≡◌, ℕ, Bool, true, false, not, List, [], ◌∷◌, ◌++◌, length, map}
 use Rattle.std.proofs.Common.{set, Option, Some, None, refl, sym, ap, subst, ◌∙◌, arith, nat_eq}
 use Rattle.std.proofs.Common.{◌+◌, ◌<◌, ◌≤◌, take, drop, get_or, length-append, Result, Ok, Err}
-use Rattle.std.specs.Prelude.{All, slice_get, ◌&&◌, ◌||◌, ◌-◌, ◌^◌, nat_lt, if◌then◌else◌, IsTrue, OnOk, OnErr, IfErr}
-use Rattle.std.specs.Prelude.{IsErrAnd}
-use Rattle.typed_ids.specs.Refusals.{are_ids_out, IsGrowthRefusal}
-use Rattle.typed_ids.specs.declared.error.StoreError.{StoreError}
-use Rattle.typed_ids.specs.declared.error.StoreError.TheVariants.{OutOfMemory, IdSpace}
+use Rattle.std.specs.Prelude.{◌&&◌, ◌||◌, ◌-◌, ◌^◌, if◌then◌else◌}
 use Rattle.std.proofs.lemmas.List.Sums.{fold_more}
 use Rattle.std.proofs.lemmas.List.Elements.{All-get_or, All-from_get_or}
 use Rattle.std.proofs.Math.Seq.{take-append_seam}
@@ -15,23 +11,20 @@ use Rattle.std.proofs.Math.Path.{fun_ext}
 use Rattle.std.proofs.Math.ListN.{get_or-map}
 use Rattle.std.proofs.lemmas.Bool.{eqb-true, eqb-false}
 use Rattle.std.proofs.lemmas.List.{ext_get_or, get_or_default, length-map, length-set, map-append}
-use Rattle.typed_ids.specs.TotalMaps.{IsUpdate}
-use Rattle.decisions.specs.Literals.{Lit, Pos, Neg, Values}
-use Rattle.clauses.specs.Clauses.{StoredLiterals, same_literal, watch_pair, watch_beside, watch_ends}
-use Rattle.clauses.specs.declared.clause.Clause.{Clause}
-use Rattle.clauses.specs.declared.clause.Clause.TheVariants.{ForbidMultipleInstances}
-use Rattle.watch_map.specs.declared.watched_literals.WatchedLiterals.{WatchedLiterals}
-use Rattle.watch_map.specs.Watching.{is_literal_in, AreTwoOrNone, IsExact, started}
-use Rattle.watch_map.specs.WatchLists.{WatchLists, Watches, literals_in, watched_by, watchers, HasRoom, AreWatched}
-use Rattle.watch_map.specs.WatchLists.{Position, clause_of, literal_of, index_of}
-use Rattle.watch_map.specs.WatchCalls.{SameLists, KeepsRoom, UsesRoom, HaveRoom, HaveRooms, Starts, StandsIn, Moves}
+use Rattle.watch_map.proofs.Words.{All, are_ids_out, AreTwoOrNone, AreWatched, bit_watches, can_rewatch, Clause}
+use Rattle.watch_map.proofs.Words.{clause_of, ClauseListState, Clauses, contents, ForbidMultipleInstances, HasRoom}
+use Rattle.watch_map.proofs.Words.{HasRoomFor, HaveRoom, HaveRooms, helper_literal, IdSpace, IfErr, index_of, is_full}
+use Rattle.watch_map.proofs.Words.{is_learnt_full, is_literal_in, IsClauseList, IsErrAnd, IsExact, IsGrowthRefusal}
+use Rattle.watch_map.proofs.Words.{IsRewatched, IsTrue, IsUpdate, KeepsRoom, Lit, literal_of, literals_watched}
+use Rattle.watch_map.proofs.Words.{may_rewatch, Moves, nat_lt, Neg, OnErr, OnOk, OutOfMemory, Pos, Position, rewatched}
+use Rattle.watch_map.proofs.Words.{same_literal, SameLists, slice_get, StandsIn, started, Starts, StartsAtEnd}
+use Rattle.watch_map.proofs.Words.{StoredLiterals, StoreError, two_or_none, UsesRoom, Values, watch_beside, watch_ends}
+use Rattle.watch_map.proofs.Words.{watch_pair, watched_by, WatchedLiterals, watchers, Watches, WatchLists, with_clause}
+use Rattle.watch_map.proofs.Words.{with_forbidden, with_forbidden_one, with_rewatched}
+use Rattle.watch_map.specs.WatchLists.{literals_in}
 use Rattle.watch_map.proofs.WatchingLaws.{exact_same}
 use Rattle.watch_map.proofs.CallerLaws.{same_records_belong, new_clauses_join, records_skip, room_is_for_fewer}
-use Rattle.watch_map.specs.ClauseList.{Clauses, IsClauseList, is_full, is_learnt_full, literals_watched, two_or_none}
-use Rattle.watch_map.specs.ClauseList.{rewatched, with_clause, with_rewatched, can_rewatch, contents, ClauseListState}
-use Rattle.watch_map.specs.ClauseList.{helper_literal, bit_watches, with_forbidden_one, with_forbidden}
-use Rattle.watch_map.specs.ClauseList.{HasRoomFor, HasRoom as HasRoomOf, KeepsRoom as KeepsRoomOf}
-use Rattle.watch_map.specs.Walks.{StartsAtEnd, IsRewatched, may_rewatch}
+use Rattle.watch_map.specs.ClauseList.{HasRoom as HasRoomOf, KeepsRoom as KeepsRoomOf}
 use Rattle.watch_map.proofs.ListCallerLaws.{watched_at, set_watches, watching_within, rewatched_is}
 
 -- the literals of a record are those that it watches

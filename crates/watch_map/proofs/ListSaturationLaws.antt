@@ -1,12 +1,8 @@
 -- What a saturation leaves of a list of clauses, from what it leaves of its records.
 use Rattle.std.proofs.Common.{◌≡◌, ℕ, true, List, map, length, sym, ap, subst, ◌∙◌}
-use Rattle.decisions.specs.Literals.{Lit}
-use Rattle.watch_map.specs.Watching.{is_literal_in}
-use Rattle.watch_map.specs.WatchLists.{Watches, literals_in, watched_by}
-use Rattle.watch_map.specs.Saturation.{WatchOwn, IsRearranged}
-use Rattle.decisions.specs.Trail.{Entry}
-use Rattle.watch_map.specs.Marks.{AreMarks}
-use Rattle.watch_map.specs.declared.marks.Mark.{Mark}
+use Rattle.watch_map.proofs.Words.{AreMarks, Entry, is_literal_in, IsRearranged, Lit, Mark, watched_by, Watches}
+use Rattle.watch_map.proofs.Words.{WatchOwn}
+use Rattle.watch_map.specs.WatchLists.{literals_in}
 use Rattle.watch_map.proofs.MarkLaws.{marks_alike}
 use Rattle.watch_map.proofs.ListCallerLaws.{watched_at}
 use Rattle.watch_map.proofs.ListLaws.{literals_at}

@@ -2,11 +2,9 @@
 use Rattle.std.proofs.Common.{◌≡◌, ℕ, zero, suc, ◌<◌, Bool, true, false, ◌||◌, cond, ◌⊎◌, inl, inr, List, []}
 use Rattle.std.proofs.Common.{◌∷◌, length, slice_index_or, set, Some, None, refl, sym, subst, ◌∙◌, arith}
 use Rattle.std.proofs.lemmas.Bool.{true≢false, and_parts, and_from, or_left, or_right, or_parts}
-use Rattle.std.specs.Prelude.{find, is_some}
-use Rattle.std.specs.List.{list_all, list_any}
-use Rattle.decisions.specs.Literals.{Lit}
-use Rattle.clauses.specs.Clauses.{same_literal}
-use Rattle.watch_map.specs.Watching.{is_literal_in, is_clause_in, AreTwoOrNone}
+use Rattle.std.specs.Prelude.{is_some}
+use Rattle.watch_map.proofs.Words.{AreTwoOrNone, find, is_clause_in, is_literal_in, list_all, list_any, Lit}
+use Rattle.watch_map.proofs.Words.{same_literal}
 use Rattle.watch_map.proofs.WatchingLaws.{same_is, same_self, same_swap, eqb_apart}
 
 -- ---- tests

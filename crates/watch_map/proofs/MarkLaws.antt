@@ -2,25 +2,16 @@
 use Rattle.std.proofs.Common.{◌≡◌, ℕ, zero, suc, ◌+◌, ◌-◌, ◌<◌, ◌≤◌, Bool, true, false, not, ◌&&◌, ◌||◌}
 use Rattle.std.proofs.Common.{inl, inr, cond, List, [], ◌∷◌, ◌++◌, length, get_or, take, drop, Some, None}
 use Rattle.std.proofs.Common.{refl, sym, ap, subst, ◌∙◌, arith, nat_eq, eqb-true, length-append, take_all}
-use Rattle.std.specs.Prelude.{All, filter, nat_le}
 use Rattle.std.proofs.lemmas.Bool.{true≢false, eqb-false, false_from_ne_true}
 use Rattle.std.proofs.lemmas.Bool.Decides.{nat_tests}
 use Rattle.std.proofs.lemmas.List.{take-append-le, take_more}
 use Rattle.std.proofs.lemmas.List.Elements.{All-filter, All-push, filter_passes}
-use Rattle.typed_ids.specs.TotalMaps.{IsUpdate}
-use Rattle.decisions.specs.Literals.{Lit, Pos, Neg, Values, variable_of, is_false_literal}
-use Rattle.decisions.specs.Trail.{Entry, Trail, val, level_of}
-use Rattle.clauses.specs.Clauses.{same_literal}
-use Rattle.watch_map.specs.Watching.{is_literal_in}
-use Rattle.watch_map.specs.Implication.{is_false, is_unit, IsSettled}
-use Rattle.watch_map.specs.Saturation.{HasImplied}
-use Rattle.watch_map.specs.WatchInvariant.{is_true_literal, is_true, has_true_beside, AreWatchesSatisfied}
-use Rattle.watch_map.specs.WatchInvariant.{KeepWatchesSatisfied, val_before}
-use Rattle.watch_map.specs.Visits.{AreUnwatchedTrue}
-use Rattle.watch_map.specs.Marks.{IsMark, AreMarks, beginning, newest_mark, is_from}
-use Rattle.watch_map.specs.Marks.{marks_below, not_false_at, none_false_at, IsRemembered}
-use Rattle.watch_map.specs.declared.marks.Mark.{Mark}
-use Rattle.watch_map.specs.declared.marks.Limit.TheVariants.{Place, Level}
+use Rattle.watch_map.proofs.Words.{All, AreMarks, AreUnwatchedTrue, AreWatchesSatisfied, beginning, Entry, filter}
+use Rattle.watch_map.proofs.Words.{has_true_beside, HasImplied, is_false, is_false_literal, is_from, is_literal_in}
+use Rattle.watch_map.proofs.Words.{is_true, is_true_literal, is_unit, IsMark, IsRemembered, IsSettled, IsUpdate}
+use Rattle.watch_map.proofs.Words.{KeepWatchesSatisfied, Level, level_of, Lit, Mark, marks_below, nat_le, Neg}
+use Rattle.watch_map.proofs.Words.{newest_mark, none_false_at, not_false_at, Place, Pos, same_literal, Trail, val}
+use Rattle.watch_map.proofs.Words.{val_before, Values, variable_of}
 use Rattle.watch_map.proofs.WatchingLaws.{same_is}
 use Rattle.watch_map.proofs.LiteralLists.{by_test, all_at, any_at, passes_of}
 use Rattle.watch_map.proofs.ValueLaws.{true_is_not_false, false_kept, before_extends}

@@ -1,11 +1,7 @@
 -- Marks of a list to which clauses were added.
 use Rattle.std.proofs.Common.{◌≡◌, ℕ, true, List, [], ◌∷◌, ◌++◌, length, refl, sym, ap, ◌∙◌, subst, append_assoc}
 use Rattle.std.proofs.Common.{append-nil, arith}
-use Rattle.decisions.specs.Literals.{Lit}
-use Rattle.decisions.specs.Trail.{Entry}
-use Rattle.watch_map.specs.Watching.{is_literal_in}
-use Rattle.watch_map.specs.Marks.{AreMarks, none_false_at, none_watched_false}
-use Rattle.watch_map.specs.declared.marks.Mark.{Mark}
+use Rattle.watch_map.proofs.Words.{AreMarks, Entry, is_literal_in, Lit, Mark, none_false_at, none_watched_false}
 use Rattle.watch_map.proofs.ListCallerLaws.{watched_at, past, pushed_watches}
 use Rattle.watch_map.proofs.MarkLaws.{marks_grown, marks_watching}
 

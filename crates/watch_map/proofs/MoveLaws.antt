@@ -2,21 +2,15 @@
 use Rattle.std.proofs.Common.{◌≡◌, ◌≢◌, ℕ, zero, suc, ◌<◌, Bool, true, false, ◌||◌, cond}
 use Rattle.std.proofs.Common.{nat_eq, List, [], ◌∷◌, ◌++◌, Option, Some, None, length}
 use Rattle.std.proofs.Common.{slice_index_or, set, sym, ap, refl, subst, ◌∙◌, arith, eqb-true}
-use Rattle.std.specs.List.{IsDistinct}
 use Rattle.std.proofs.lemmas.Bool.{eqb-false}
 use Rattle.std.proofs.lemmas.List.{append_assoc}
-use Rattle.typed_ids.specs.TotalMaps.{IsUpdate}
-use Rattle.decisions.specs.Literals.{Lit}
-use Rattle.decisions.specs.LiteralIndex.{literal_index, literal_index-injective}
-use Rattle.id_storage.specs.Mapping.{value_at}
-use Rattle.watch_map.specs.WatchLists.{Position}
-use Rattle.watch_map.specs.declared.nodes.WatchNode.{WatchNode}
-use Rattle.clauses.specs.Clauses.{same_literal}
-use Rattle.watch_map.specs.Watching.{is_literal_in, is_clause_in, AreTwoOrNone, IsExact, without, moved}
-use Rattle.watch_map.specs.WatchLists.{WatchLists, Watches, record_of, literals_in, watched_by, next_in, next_at}
-use Rattle.watch_map.specs.WatchLists.{link, IsChain, watchers, HasTwoLinks, AreWatched, with_next, with_watch}
-use Rattle.watch_map.specs.WatchLists.{IsPrevious, IsRelinked, literal_of, clause_of, index_of}
-use Rattle.watch_map.specs.WatchCalls.{StandsIn, IsReached, Moves, passed, rest}
+use Rattle.watch_map.proofs.Words.{AreTwoOrNone, AreWatched, clause_of, HasTwoLinks, index_of, is_clause_in}
+use Rattle.watch_map.proofs.Words.{is_literal_in, IsChain, IsDistinct, IsExact, IsPrevious, IsReached, IsRelinked}
+use Rattle.watch_map.proofs.Words.{IsUpdate, link, Lit, literal_index, literal_index-injective, literal_of, moved}
+use Rattle.watch_map.proofs.Words.{Moves, next_at, next_in, passed, Position, record_of, rest, same_literal, StandsIn}
+use Rattle.watch_map.proofs.Words.{value_at, watched_by, watchers, Watches, WatchLists, WatchNode, with_next}
+use Rattle.watch_map.proofs.Words.{with_watch, without}
+use Rattle.watch_map.specs.WatchLists.{literals_in}
 use Rattle.watch_map.proofs.WatchingLaws.{same_is, same_self, same_swap, split, without_parts, distinct_head}
 use Rattle.watch_map.proofs.WatchingLaws.{distinct_tail, exact_same, moved_exact}
 use Rattle.watch_map.proofs.ChainLaws.{in_head, in_rest, in_middle, chain_same, chain_behind, chain_less}

@@ -3,8 +3,7 @@ use Rattle.std.proofs.Common.{◌≡◌, ℕ, zero, suc, ◌+◌, ◌<◌, ◌�
 use Rattle.std.proofs.Common.{nat_eq, eqb-true}
 use Rattle.std.specs.Prelude.{if◌then◌else◌}
 use Rattle.std.proofs.lemmas.Bool.{eqb-false}
-use Rattle.decisions.specs.Literals.{Lit, Values}
-use Rattle.watch_map.specs.WatchInvariant.{Extends, is_true_literal, is_true}
+use Rattle.watch_map.proofs.Words.{Extends, is_true, is_true_literal, Lit, Values}
 use Rattle.watch_map.proofs.LiteralLists.{by_test, any_at, passes_of}
 use Rattle.watch_map.proofs.ValueLaws.{true_kept}
 

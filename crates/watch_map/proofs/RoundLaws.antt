@@ -1,22 +1,16 @@
 -- The rounds of a saturation: the next place, the clauses that watch nothing, the end, and what gets smaller.
-use Rattle.std.specs.Prelude.{MatchOption, is_some, slice_get}
+use Rattle.std.specs.Prelude.{is_some}
 use Rattle.std.proofs.Common.{◌≡◌, ◌≢◌, ℕ, ◌+◌, ◌-◌, ◌<◌, ◌≤◌, true, false, List, [], ◌∷◌}
 use Rattle.std.proofs.Common.{◌++◌, length, map, get_or, Option, Some, None, refl, sym, ap}
 use Rattle.std.proofs.Common.{subst, ◌∙◌, arith, take, take_all, length-append}
 use Rattle.std.proofs.lemmas.Bool.{or_left}
 use Rattle.std.proofs.lemmas.List.{length-map, get_or_append_left, get_or-map}
 use Rattle.std.proofs.lemmas.Option.{slice_get-get_or, slice_get_within, get_or_from_slice_get}
-use Rattle.decisions.specs.Literals.{Lit, Values}
-use Rattle.decisions.specs.declared.decision.Decision.{Decision}
-use Rattle.decisions.specs.Trail.{Entry, Trail, val}
-use Rattle.clauses.specs.Clauses.{same_literal}
-use Rattle.watch_map.specs.Watching.{is_literal_in, AreTwoOrNone}
-use Rattle.watch_map.specs.Implication.{IsSettled, AreSettled}
-use Rattle.watch_map.specs.WatchLists.{WatchLists, Watches, watched_by, AreWatched}
-use Rattle.watch_map.specs.Saturation.{WatchOwn, HasImplied, IsRearranged}
-use Rattle.watch_map.specs.WatchInvariant.{refuted_literal, AreWatchesSatisfied, AreWatchesSatisfiedBut}
-use Rattle.watch_map.specs.WatchInvariant.{KeepWatchesSatisfied, val_before}
-use Rattle.watch_map.specs.Visits.{AreUnwatchedSettled, AreAllSettled}
+use Rattle.watch_map.proofs.Words.{AreAllSettled, AreSettled, AreTwoOrNone, AreUnwatchedSettled, AreWatched}
+use Rattle.watch_map.proofs.Words.{AreWatchesSatisfied, AreWatchesSatisfiedBut, Decision, Entry, HasImplied}
+use Rattle.watch_map.proofs.Words.{is_literal_in, IsRearranged, IsSettled, KeepWatchesSatisfied, Lit, MatchOption}
+use Rattle.watch_map.proofs.Words.{refuted_literal, same_literal, slice_get, Trail, val, val_before, Values, watched_by}
+use Rattle.watch_map.proofs.Words.{Watches, WatchLists, WatchOwn}
 use Rattle.watch_map.proofs.WatchingLaws.{same_self}
 use Rattle.watch_map.proofs.OpenClauses.{count_open}
 use Rattle.watch_map.proofs.ValueLaws.{extends_on}

@@ -1,20 +1,14 @@
 -- The invariant of watched literals: what keeps it, and what is true of a clause where all that is false is met.
 use Rattle.std.proofs.Common.{◌≡◌, ℕ, ◌+◌, ◌<◌, true, false, not, ◌&&◌, inl, inr, List, [], ◌∷◌, ◌++◌, length}
 use Rattle.std.proofs.Common.{take, slice_index_or, set, Some, refl, sym, ap, subst, ◌∙◌, nat_eq, eqb-true}
-use Rattle.std.specs.Prelude.{slice_get}
 use Rattle.std.proofs.lemmas.Bool.{true≢false, eqb-false, and_parts, and_from, not-true, not_from_false}
 use Rattle.std.proofs.lemmas.Bool.{false_from_ne_true}
 use Rattle.std.proofs.lemmas.List.{take_more}
 use Rattle.std.proofs.lemmas.Option.{slice_get_within, get_or_from_slice_get}
-use Rattle.typed_ids.specs.TotalMaps.{IsUpdate}
-use Rattle.decisions.specs.Literals.{Lit, Pos, Neg, Values, is_false_literal}
-use Rattle.decisions.specs.Trail.{Entry, val}
-use Rattle.clauses.specs.Clauses.{same_literal}
-use Rattle.watch_map.specs.Watching.{is_literal_in, AreTwoOrNone}
-use Rattle.watch_map.specs.Implication.{is_false, is_unit}
-use Rattle.watch_map.specs.Saturation.{WatchOwn}
-use Rattle.watch_map.specs.WatchInvariant.{Extends, refuted_literal, is_true_literal, has_true_beside}
-use Rattle.watch_map.specs.WatchInvariant.{AreWatchesSatisfied, AreWatchesSatisfiedBut, val_before}
+use Rattle.watch_map.proofs.Words.{AreTwoOrNone, AreWatchesSatisfied, AreWatchesSatisfiedBut, Entry, Extends}
+use Rattle.watch_map.proofs.Words.{has_true_beside, is_false, is_false_literal, is_literal_in, is_true_literal, is_unit}
+use Rattle.watch_map.proofs.Words.{IsUpdate, Lit, Neg, Pos, refuted_literal, same_literal, slice_get, val, val_before}
+use Rattle.watch_map.proofs.Words.{Values, WatchOwn}
 use Rattle.watch_map.proofs.WatchingLaws.{same_swap}
 use Rattle.watch_map.proofs.LiteralLists.{by_test, all_at, any_at, passes_of, another, only_two, moved_two, not_ahead}
 use Rattle.watch_map.proofs.ValueLaws.{true_kept, false_kept, true_is_not_false, false_of_more}

@@ -2,14 +2,12 @@
 use Rattle.std.proofs.Common.{◌≡◌, ℕ, ◌+◌, ◌-◌, ◌<◌, ◌≤◌, Bool, true, false, not}
 use Rattle.std.proofs.Common.{◌&&◌, List, [], ◌∷◌, ◌++◌, length, get_or, take}
 use Rattle.std.proofs.Common.{cond, refl, sym, ap, subst, ◌∙◌, arith, append-nil, take_all}
-use Rattle.std.specs.Prelude.{All, nat_lt, filter}
 use Rattle.std.proofs.lemmas.List.{get_or_default, length-take-le}
 use Rattle.std.proofs.lemmas.Bool.Decides.{nat_tests}
 use Rattle.std.proofs.lemmas.List.Elements.{All-head, All-tail, filter_more}
-use Rattle.watch_map.specs.Marks.{newest_mark, beginning, is_from, marks_below, IsBehind, AreRising}
-use Rattle.watch_map.specs.declared.marks.Mark.{Mark}
-use Rattle.watch_map.specs.declared.marks.Limit.{Limit}
-use Rattle.watch_map.specs.declared.marks.Limit.TheVariants.{Place, Level}
+use Rattle.watch_map.proofs.Words.{All, AreRising, beginning, filter, is_from, Level, Limit, Mark, marks_below, nat_lt}
+use Rattle.watch_map.proofs.Words.{newest_mark, Place}
+use Rattle.watch_map.specs.Marks.{IsBehind}
 use Rattle.watch_map.proofs.LiteralLists.{by_test}
 
 -- a test that all pass keeps all

@@ -1,20 +1,14 @@
 -- A new map, room in it, and a clause that starts to watch.
 use Rattle.std.proofs.Common.{◌≡◌, ◌≢◌, ℕ, zero, suc, ◌<◌, ◌≤◌, ◌+◌, Bool, true, false, ◌||◌, cond, nat_eq, List}
 use Rattle.std.proofs.Common.{[], ◌∷◌, Option, Some, None, length, slice_index_or, sym, ap, refl, subst, ◌∙◌, arith}
-use Rattle.std.specs.List.{IsDistinct}
-use Rattle.std.specs.Prelude.{Result, Ok, Err, OnOk, OnErr, max}
-use Rattle.typed_ids.specs.declared.error.StoreError.{StoreError}
+use Rattle.std.specs.Prelude.{Result, Ok, Err}
 use Rattle.std.proofs.lemmas.Bool.{eqb-false, eqb-true}
-use Rattle.typed_ids.specs.TotalMaps.{IsUpdate, SameValues}
-use Rattle.decisions.specs.Literals.{Lit}
-use Rattle.decisions.specs.LiteralIndex.{literal_index}
-use Rattle.id_storage.specs.Mapping.{value_at, AreEmpty}
-use Rattle.watch_map.specs.declared.watched_literals.WatchedLiterals.{WatchedLiterals}
-use Rattle.clauses.specs.Clauses.{same_literal}
-use Rattle.watch_map.specs.Watching.{is_literal_in, is_clause_in, AreTwo, IsExact, started}
-use Rattle.watch_map.specs.WatchLists.{WatchLists, Watches, record_of, literals_in, watched_by, next_in}
-use Rattle.watch_map.specs.WatchLists.{link, chain, IsChain, watchers, HasTwoLinks, HasRoom, AreWatched}
-use Rattle.watch_map.specs.WatchCalls.{SameLists, Starts, KeepsRoom, UsesRoom}
+use Rattle.watch_map.proofs.Words.{AreEmpty, AreTwo, AreWatched, chain, HasRoom, HasTwoLinks, is_clause_in}
+use Rattle.watch_map.proofs.Words.{is_literal_in, IsChain, IsDistinct, IsExact, IsUpdate, KeepsRoom, link, Lit}
+use Rattle.watch_map.proofs.Words.{literal_index, max, next_in, OnErr, OnOk, record_of, same_literal, SameLists}
+use Rattle.watch_map.proofs.Words.{SameValues, started, Starts, StoreError, UsesRoom, value_at, watched_by}
+use Rattle.watch_map.proofs.Words.{WatchedLiterals, watchers, Watches, WatchLists}
+use Rattle.watch_map.specs.WatchLists.{literals_in}
 use Rattle.watch_map.proofs.WatchingLaws.{same_is, same_self, same_swap, exact_same, started_exact}
 use Rattle.watch_map.proofs.ChainLaws.{chain_same}
 use Rattle.watch_map.proofs.LinkLaws.{lists_made}

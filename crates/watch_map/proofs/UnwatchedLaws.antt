@@ -2,24 +2,18 @@
 use Rattle.std.proofs.Common.{◌≡◌, ℕ, ◌+◌, ◌<◌, ◌≤◌, true, false, List, [], ◌∷◌, ◌++◌, length, get_or, take, Option}
 use Rattle.std.proofs.Common.{None}
 use Rattle.std.proofs.Common.{refl, sym, ap, subst, ◌∙◌, arith, nat_eq, eqb-true, length-append, Result, Ok, Err}
-use Rattle.std.specs.Prelude.{All, nat_lt, if◌then◌else◌, OnOk, OnErr}
-use Rattle.std.specs.List.{AllPairs, Contains}
+use Rattle.std.specs.Prelude.{if◌then◌else◌}
 use Rattle.std.proofs.lemmas.Bool.{eqb-false}
 use Rattle.std.proofs.lemmas.Bool.Decides.{nat_tests}
 use Rattle.std.proofs.lemmas.List.{get_or_append_left, get_or_default, get_or-take, length-take-le, length-map}
 use Rattle.std.proofs.lemmas.List.{take_more}
 use Rattle.std.proofs.lemmas.List.Elements.{All-push, All-take, All-contains, Contains-push, Contains-append_left}
 use Rattle.std.proofs.lemmas.List.Quantifiers.{all_pairs_push}
-use Rattle.decisions.specs.Literals.{Lit, Values}
-use Rattle.watch_map.specs.declared.watched_literals.WatchedLiterals.{WatchedLiterals}
-use Rattle.watch_map.specs.Watching.{AreUnwatched}
-use Rattle.clauses.specs.Clauses.{same_literal}
-use Rattle.watch_map.specs.WatchLists.{WatchLists, Watches, literals_in, watched_by, AreUnwatchedBelow}
-use Rattle.watch_map.specs.WatchCalls.{SameLists}
-use Rattle.watch_map.specs.Walks.{IsRewatched}
-use Rattle.watch_map.specs.Implication.{IsSettled}
-use Rattle.watch_map.specs.WatchInvariant.{is_true}
-use Rattle.watch_map.specs.Visits.{AreUnwatchedSettled, AreUnwatchedTrue, AreAllSettled, AreAllTrue}
+use Rattle.watch_map.proofs.Words.{All, AllPairs, AreAllSettled, AreAllTrue, AreUnwatched, AreUnwatchedBelow}
+use Rattle.watch_map.proofs.Words.{AreUnwatchedSettled, AreUnwatchedTrue, Contains, is_true, IsRewatched, IsSettled}
+use Rattle.watch_map.proofs.Words.{Lit, nat_lt, OnErr, OnOk, same_literal, SameLists, Values, watched_by}
+use Rattle.watch_map.proofs.Words.{WatchedLiterals, Watches, WatchLists}
+use Rattle.watch_map.specs.WatchLists.{literals_in}
 use Rattle.watch_map.proofs.LiteralLists.{by_test}
 use Rattle.watch_map.proofs.MarkLaws.{true_is_settled}
 

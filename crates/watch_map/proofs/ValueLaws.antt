@@ -1,18 +1,14 @@
 -- Values that only grow, and the values that entries give.
 use Rattle.std.proofs.Common.{◌≡◌, ℕ, zero, suc, Bool, true, false, not, cond, ◌⊎◌, inl, inr, List, [], ◌∷◌, ◌++◌}
 use Rattle.std.proofs.Common.{take, drop, Option, Some, None, refl, sym, ap, subst, ◌∙◌, nat_eq, eq-eqb, eqb-true}
-use Rattle.std.specs.Prelude.{slice_get, option_map, is_some}
-use Rattle.std.specs.Bool.{beq}
-use Rattle.std.specs.Option.{option_eq}
+use Rattle.std.specs.Prelude.{is_some}
 use Rattle.std.proofs.lemmas.Bool.{true≢false}
 use Rattle.std.proofs.lemmas.List.{take-append-drop}
-use Rattle.decisions.specs.Literals.{Lit, Pos, Neg, Values, variable_of, satisfying_value, truth, known_true}
-use Rattle.decisions.specs.Literals.{known_false, undecided, is_false_literal}
-use Rattle.decisions.specs.declared.decision.Decision.{Decision}
-use Rattle.decisions.specs.Trail.{Entry, val, IsOnce}
 use Rattle.decisions.proofs.TrailLemmas.{val-push}
-use Rattle.watch_map.specs.Implication.{decided_literal}
-use Rattle.watch_map.specs.WatchInvariant.{Extends, refuted_literal, is_true_literal, val_before}
+use Rattle.watch_map.proofs.Words.{beq, decided_literal, Decision, Entry, Extends, is_false_literal, is_true_literal}
+use Rattle.watch_map.proofs.Words.{IsOnce, known_false, known_true, Lit, Neg, option_eq, option_map, Pos}
+use Rattle.watch_map.proofs.Words.{refuted_literal, satisfying_value, slice_get, truth, undecided, val, val_before}
+use Rattle.watch_map.proofs.Words.{Values, variable_of}
 use Rattle.watch_map.proofs.LiteralLists.{by_test}
 
 -- ---- values

@@ -1,15 +1,11 @@
 -- What a look at one clause tells.
 use Rattle.std.proofs.Common.{◌≡◌, ℕ, zero, suc, ◌<◌, ◌-◌, Bool, true, false, not, ◌&&◌, ◌||◌, inl, inr, List, []}
 use Rattle.std.proofs.Common.{◌∷◌, length, slice_index_or, get_or, Some, None, refl, sym, subst, ◌∙◌, arith}
-use Rattle.std.specs.Prelude.{find, slice_get}
 use Rattle.std.proofs.lemmas.Bool.{true≢false, and_parts, or_left, or_right, not-true, not-false, false_from_ne_true}
 use Rattle.std.proofs.lemmas.Option.{slice_get_read}
-use Rattle.decisions.specs.Literals.{Lit, Values, truth, is_false_literal}
-use Rattle.clauses.specs.Clauses.{same_literal}
-use Rattle.watch_map.specs.Watching.{is_literal_in, AreTwoOrNone}
-use Rattle.watch_map.specs.Implication.{is_false, is_unit, IsSettled}
-use Rattle.watch_map.specs.WatchInvariant.{is_true_literal, has_true_beside}
-use Rattle.watch_map.specs.Visits.{may_watch, IsWatching, MayWatch, ImpliesOther}
+use Rattle.watch_map.proofs.Words.{AreTwoOrNone, find, has_true_beside, ImpliesOther, is_false, is_false_literal}
+use Rattle.watch_map.proofs.Words.{is_literal_in, is_true_literal, is_unit, IsSettled, IsWatching, Lit, may_watch}
+use Rattle.watch_map.proofs.Words.{MayWatch, same_literal, slice_get, truth, Values}
 use Rattle.watch_map.proofs.WatchingLaws.{same_is, same_self, same_swap}
 use Rattle.watch_map.proofs.LiteralLists.{by_test, all_at, all_from, found_is, none_found, in_two, apart}
 use Rattle.watch_map.proofs.ValueLaws.{open_if, true_is_decided}

@@ -1,21 +1,13 @@
 -- A walk over the clauses that watch a literal: what each of its steps leaves.
 use Rattle.std.proofs.Common.{◌≡◌, ℕ, ◌<◌, true, nat_eq, List, [], ◌∷◌, ◌++◌, length, slice_index_or, Option, Some}
 use Rattle.std.proofs.Common.{None, refl, sym, ap, subst, ◌∙◌, arith}
-use Rattle.std.specs.Prelude.{option_map}
-use Rattle.std.specs.Option.{ForSome}
-use Rattle.std.specs.List.{IsDistinct}
 use Rattle.std.proofs.lemmas.List.{append_assoc}
-use Rattle.decisions.specs.Literals.{Lit, is_false_literal}
-use Rattle.decisions.specs.Trail.{Trail, val}
-use Rattle.watch_map.specs.declared.nodes.WatchNode.{WatchNode}
-use Rattle.watch_map.specs.Watching.{is_literal_in, is_clause_in, behind}
-use Rattle.watch_map.specs.WatchLists.{WatchLists, Watches, Position, watched_by, watchers, AreWatched, clause_of}
-use Rattle.watch_map.specs.WatchLists.{index_of, literal_of}
-use Rattle.watch_map.specs.WatchLists.{IsNode, IsPrevious, IsCursorAt, IsChain, link, next_at, record_of}
-use Rattle.watch_map.specs.WatchCalls.{StandsIn, IsReached, Moves, passed, rest}
-use Rattle.watch_map.specs.Saturation.{HasImplied, IsRearranged}
-use Rattle.watch_map.specs.WatchInvariant.{has_true_beside, KeepWatchesSatisfied, AreWatchesSatisfiedBut}
-use Rattle.watch_map.specs.Visits.{IsWatching, MayWatch}
+use Rattle.watch_map.proofs.Words.{AreWatched, AreWatchesSatisfiedBut, behind, clause_of, ForSome, has_true_beside}
+use Rattle.watch_map.proofs.Words.{HasImplied, index_of, is_clause_in, is_false_literal, is_literal_in, IsChain}
+use Rattle.watch_map.proofs.Words.{IsCursorAt, IsDistinct, IsNode, IsPrevious, IsReached, IsRearranged, IsWatching}
+use Rattle.watch_map.proofs.Words.{KeepWatchesSatisfied, link, Lit, literal_of, MayWatch, Moves, next_at, option_map}
+use Rattle.watch_map.proofs.Words.{passed, Position, record_of, rest, StandsIn, Trail, val, watched_by, watchers}
+use Rattle.watch_map.proofs.Words.{Watches, WatchLists, WatchNode}
 use Rattle.watch_map.proofs.CursorLaws.{reached_cursor}
 use Rattle.watch_map.proofs.MoveLaws.{reached_past}
 use Rattle.watch_map.proofs.WatchingLaws.{parts}

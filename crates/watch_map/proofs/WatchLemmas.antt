@@ -1,11 +1,9 @@
 -- What a requires clause watches beside its parent, by the first of its other literals and the first that isn't false.
 use Rattle.std.proofs.Common.{◌≡◌, ℕ, Bool, true, false, not, ◌&&◌, List, [], ◌∷◌, Option, Some, None, refl, sym, ap}
 use Rattle.std.proofs.Common.{cond}
-use Rattle.std.specs.Prelude.{find, unwrap_or, is_some}
-use Rattle.std.specs.List.{list_all}
-use Rattle.std.specs.Option.{option_or}
-use Rattle.decisions.specs.Literals.{Lit, Values, known_false, is_false_literal}
-use Rattle.clauses.specs.Clauses.{first_not_false, conflicts_with_parent}
+use Rattle.std.specs.Prelude.{is_some}
+use Rattle.watch_map.proofs.Words.{conflicts_with_parent, find, first_not_false, is_false_literal, known_false}
+use Rattle.watch_map.proofs.Words.{list_all, Lit, option_or, unwrap_or, Values}
 
 -- all pass where none is found that doesn't
 all-unfound : {X : Type 0} (p : X → Bool) (xs : List X) → list_all p xs ≡ not (is_some (find (λ x. not (p x)) xs))

@@ -3,14 +3,10 @@ use Rattle.std.proofs.Common.{◌≡◌, ◌≢◌, ℕ, zero, suc, ◌<◌, ◌
 use Rattle.std.proofs.Common.{◌||◌, cond, nat_eq, List, [], ◌∷◌, ◌++◌, sym, ap, refl, subst}
 use Rattle.std.proofs.Common.{◌∙◌, arith, length, slice_index_or, set, eqb-true, eq-eqb}
 use Rattle.std.proofs.lemmas.Bool.{eqb-false}
-use Rattle.std.specs.List.{AllByRecursion, IsDistinct}
 use Rattle.std.proofs.lemmas.Map.Steps.{length-le_from_distinct_below}
-use Rattle.typed_ids.specs.TotalMaps.{IsUpdate}
-use Rattle.decisions.specs.Literals.{Lit, Pos, Neg}
-use Rattle.clauses.specs.Clauses.{same_literal}
-use Rattle.watch_map.specs.Watching.{is_literal_in, is_clause_in, AreTwo, AreTwoOrNone, IsExact, started, without}
-use Rattle.watch_map.specs.Watching.{moved, before, behind}
-use Rattle.watch_map.specs.WatchLists.{Watches, watched_by}
+use Rattle.watch_map.proofs.Words.{AllByRecursion, AreTwo, AreTwoOrNone, before, behind, is_clause_in, is_literal_in}
+use Rattle.watch_map.proofs.Words.{IsDistinct, IsExact, IsUpdate, Lit, moved, Neg, Pos, same_literal, started}
+use Rattle.watch_map.proofs.Words.{watched_by, Watches, without}
 
 -- ---- literals
 

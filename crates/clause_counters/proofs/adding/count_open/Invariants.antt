@@ -1,5 +1,5 @@
 use Rattle.std.proofs.Common.{◌≡◌, ◌≤◌, take}
-use Rattle.clause_counters.specs.Adding.{open_count}
+use Rattle.clause_counters.proofs.Words.{open_count}
 use Rattle.clause_counters.proofs.adding.count_open.Given as goal
 
 abbrev pub invariant-loop-group : goal.invariant-loop-group

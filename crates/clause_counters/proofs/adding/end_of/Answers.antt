@@ -1,8 +1,7 @@
 use Rattle.std.proofs.Common.{◌≡◌, ◌+◌, ◌<◌, ◌≤◌, get_or, ap, ◌∙◌, arith}
 use Rattle.std.proofs.lemmas.List.{get_or_default, get_or_read}
 use Rattle.std.proofs.lemmas.List.Elements.{AllWithin-more}
-use Rattle.decisions.specs.Literals.{Pos}
-use Rattle.decisions.specs.LiteralIndex.{literal_index}
+use Rattle.clause_counters.proofs.Words.{literal_index, Pos}
 use Rattle.clause_counters.proofs.adding.end_of.Goals as goal
 
 pub loop-literal-preserved : goal.loop-literal-preserved

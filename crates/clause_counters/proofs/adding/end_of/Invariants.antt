@@ -1,6 +1,5 @@
 use Rattle.std.proofs.Common.{ℕ, ◌≤◌, ◌<◌}
-use Rattle.std.specs.List.{All, AllWithin}
-use Rattle.decisions.specs.LiteralIndex.{literal_index}
+use Rattle.clause_counters.proofs.Words.{All, AllWithin, literal_index}
 use Rattle.clause_counters.proofs.adding.end_of.Given as goal
 
 abbrev pub invariant-loop-literal : goal.invariant-loop-literal

@@ -1,9 +1,8 @@
 use Rattle.std.proofs.Common.{◌≡◌, ◌+◌, ◌<◌, not, cond, eqb, length, take, get_or, refl, sym, ap, ◌∙◌, arith}
 use Rattle.std.proofs.lemmas.List.{length-set, length_push}
 use Rattle.std.proofs.lemmas.List.Sums.{sum_by_more}
-use Rattle.clause_counters.specs.Links.{numbers_at, count}
-use Rattle.clause_counters.specs.Counted.{group_at, all_members, open_members}
-use Rattle.clause_counters.specs.Adding.{IsMember, with_member, joined_at, open_count}
+use Rattle.clause_counters.proofs.Words.{all_members, count, group_at, IsMember, joined_at, numbers_at, open_count}
+use Rattle.clause_counters.proofs.Words.{open_members, with_member}
 use Rattle.clause_counters.proofs.PoolLaws.{merged, merged_twice, one_unless, moved}
 use Rattle.clause_counters.proofs.AddingSteps.{member_step, member_lists, member_all, member_open, member_left}
 use Rattle.clause_counters.proofs.adding.join_groups.Goals as goal

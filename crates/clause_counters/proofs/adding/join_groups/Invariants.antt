@@ -1,8 +1,6 @@
 use Rattle.std.proofs.Common.{◌≡◌, ◌+◌, ℕ, cond, eqb, take}
-use Rattle.std.specs.Prelude.{vec_len, vec_capacity}
-use Rattle.clause_counters.specs.Links.{numbers_at, count}
-use Rattle.clause_counters.specs.Counted.{group_at, all_members, open_members}
-use Rattle.clause_counters.specs.Adding.{IsMember, open_count}
+use Rattle.clause_counters.proofs.Words.{all_members, count, group_at, IsMember, numbers_at, open_count, open_members}
+use Rattle.clause_counters.proofs.Words.{vec_capacity, vec_len}
 use Rattle.clause_counters.proofs.adding.join_groups.Given as goal
 
 abbrev pub invariant-loop-group : goal.invariant-loop-group

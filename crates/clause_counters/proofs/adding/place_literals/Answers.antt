@@ -1,20 +1,14 @@
 use Rattle.std.proofs.Common.{◌≡◌, ℕ, ◌+◌, ◌-◌, ◌<◌, ◌≤◌, Bool, true, false, not, ◌||◌, cond, eqb, List, length, take}
 use Rattle.std.proofs.Common.{get_or, refl, sym, ap, ◌∙◌, subst, arith, inl, inr}
 use mir.Val.{bool_byte}
-use Rattle.std.specs.List.{list_any}
 use Rattle.std.proofs.lemmas.Bool.{cases_lt, cases_eq, eq-eqb, ne_eqb, eqb-true, false≢true, and_parts}
 use Rattle.std.proofs.lemmas.Bool.{false_from_ne_true}
 use Rattle.std.proofs.lemmas.List.{get_or_past, get_or_read}
 use Rattle.std.proofs.lemmas.List.Folds.{list_any_more}
-use Rattle.decisions.specs.Decisions.{values_in}
-use Rattle.decisions.specs.Literals.{Pos, is_false_literal}
-use Rattle.decisions.specs.LiteralIndex.{literal_index}
-use Rattle.clause_counters.specs.declared.links.Link.{Link}
-use Rattle.clause_counters.specs.declared.groups.Standing.{Standing}
-use Rattle.clause_counters.specs.Links.{link_at, numbers_at, count}
-use Rattle.clause_counters.specs.Counted.{no_standing, standing_at, all_places, open_places}
-use Rattle.clause_counters.specs.GroupedClauses.{has_index, once}
-use Rattle.clause_counters.specs.Adding.{IsStanding, AreFlagged, initial_flag, is_newest, with_place_once, placed_once}
+use Rattle.clause_counters.proofs.Words.{all_places, AreFlagged, count, has_index, initial_flag, is_false_literal}
+use Rattle.clause_counters.proofs.Words.{is_newest, IsStanding, Link, link_at, list_any, literal_index, no_standing}
+use Rattle.clause_counters.proofs.Words.{numbers_at, once, open_places, placed_once, Pos, Standing, standing_at}
+use Rattle.clause_counters.proofs.Words.{values_in, with_place_once}
 use Rattle.clause_counters.proofs.FlagLaws.{of_literal}
 use Rattle.clause_counters.proofs.CountLaws.{no_term, first_counted}
 use Rattle.clause_counters.proofs.PoolLaws.{merged, merged_le, merged_twice, byte_neither, neither_le, moved}

@@ -1,13 +1,7 @@
 use Rattle.std.proofs.Common.{◌≡◌, ◌≤◌, ◌+◌, ℕ, Bool, cond, eqb, take}
-use Rattle.std.specs.Prelude.{vec_len, vec_capacity}
-use Rattle.std.specs.List.{All, list_any}
-use Rattle.decisions.specs.Decisions.{values_in}
-use Rattle.decisions.specs.Literals.{is_false_literal}
-use Rattle.decisions.specs.LiteralIndex.{literal_index}
-use Rattle.clause_counters.specs.Links.{numbers_at, count}
-use Rattle.clause_counters.specs.Counted.{standing_at, all_places, open_places}
-use Rattle.clause_counters.specs.GroupedClauses.{has_index, once}
-use Rattle.clause_counters.specs.Adding.{IsStanding, AreFlagged, is_newest}
+use Rattle.clause_counters.proofs.Words.{All, all_places, AreFlagged, count, has_index, is_false_literal, is_newest}
+use Rattle.clause_counters.proofs.Words.{IsStanding, list_any, literal_index, numbers_at, once, open_places}
+use Rattle.clause_counters.proofs.Words.{standing_at, values_in, vec_capacity, vec_len}
 use Rattle.clause_counters.proofs.adding.place_literals.Given as goal
 
 abbrev pub invariant-loop-literal : goal.invariant-loop-literal

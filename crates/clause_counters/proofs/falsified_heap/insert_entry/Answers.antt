@@ -1,10 +1,8 @@
 use Rattle.std.proofs.Common.{◌≡◌, ◌<◌, true, length, sym, subst, set}
-use Rattle.std.specs.Prelude.{IsOk, ◌∷◌}
-use Rattle.std.specs.List.Sorted.{IsPermutation}
+use Rattle.std.specs.Prelude.{◌∷◌}
 use Rattle.std.proofs.lemmas.List.{get_or_read_under}
-use Rattle.std.specs.BinaryHeap.{heap_items, heap_capacity, heap_len}
-use Rattle.clause_counters.specs.declared.falsified_heap.Clause.{Clause}
-use Rattle.clause_counters.specs.FalsifiedHeap.{IsHeld, heap_clause, no_heap_clause, with_mark}
+use Rattle.clause_counters.proofs.Words.{Clause, heap_capacity, heap_clause, heap_items, heap_len, IsHeld, IsOk}
+use Rattle.clause_counters.proofs.Words.{IsPermutation, no_heap_clause, with_mark}
 use Rattle.clause_counters.proofs.HeldLaws.{held_inserted, room_left, roomier, from_ok}
 use Rattle.clause_counters.proofs.falsified_heap.insert_entry.Goals as goal
 

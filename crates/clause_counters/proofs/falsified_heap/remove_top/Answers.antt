@@ -1,10 +1,8 @@
 use Rattle.std.proofs.Common.{◌≡◌, ◌<◌, false, Some, length, sym, subst, arith, set}
-use Rattle.std.specs.Prelude.{IsSome, IfSome, ◌∷◌}
-use Rattle.std.specs.List.Sorted.{IsPermutation}
+use Rattle.std.specs.Prelude.{◌∷◌}
 use Rattle.std.proofs.lemmas.List.{get_or_read_under}
-use Rattle.std.specs.BinaryHeap.{PopsGreatest, heap_items, heap_capacity}
-use Rattle.clause_counters.specs.declared.falsified_heap.Clause.{Clause}
-use Rattle.clause_counters.specs.FalsifiedHeap.{IsHeld, heap_clause, no_heap_clause, with_mark, heap_cmp}
+use Rattle.clause_counters.proofs.Words.{Clause, heap_capacity, heap_clause, heap_cmp, heap_items, IfSome, IsHeld}
+use Rattle.clause_counters.proofs.Words.{IsPermutation, IsSome, no_heap_clause, PopsGreatest, with_mark}
 use Rattle.clause_counters.proofs.HeldLaws.{held_removed, top_within, popped_is, roomier}
 use Rattle.clause_counters.proofs.falsified_heap.remove_top.Goals as goal
 

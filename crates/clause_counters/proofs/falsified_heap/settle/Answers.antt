@@ -1,9 +1,7 @@
 use Rattle.std.proofs.Common.{◌≡◌, ◌<◌, sym, ap, subst, ◌∙◌, Some, None, false}
 use Rattle.std.proofs.lemmas.List.{get_or_read_under}
-use Rattle.std.specs.BinaryHeap.{heap_items, heap_capacity}
-use Rattle.clause_counters.specs.declared.falsified_heap.Clause.{Clause}
-use Rattle.clause_counters.specs.FalsifiedHeap.{IsHeld, IsFalsifiedHeap, heap_clause, no_heap_clause, lefts_of}
-use Rattle.clause_counters.specs.FalsifiedHeap.{firsts_of}
+use Rattle.clause_counters.proofs.Words.{Clause, firsts_of, heap_capacity, heap_clause, heap_items, IsFalsifiedHeap}
+use Rattle.clause_counters.proofs.Words.{IsHeld, lefts_of, no_heap_clause}
 use Rattle.clause_counters.proofs.HeapLaws.{first_is_top, none_is_first, heap_removed, same_first}
 use Rattle.clause_counters.proofs.HeldLaws.{top_within}
 use Rattle.clause_counters.proofs.ClauseLaws.{lefts_kept, firsts_kept}

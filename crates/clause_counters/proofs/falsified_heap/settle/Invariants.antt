@@ -1,6 +1,5 @@
 use Rattle.std.proofs.Common.{◌≡◌}
-use Rattle.std.specs.BinaryHeap.{heap_items, heap_capacity, heap_len}
-use Rattle.clause_counters.specs.FalsifiedHeap.{IsFalsifiedHeap, lefts_of, firsts_of}
+use Rattle.clause_counters.proofs.Words.{firsts_of, heap_capacity, heap_items, heap_len, IsFalsifiedHeap, lefts_of}
 use Rattle.clause_counters.proofs.falsified_heap.settle.Given as goal
 
 abbrev pub invariant-loop-top : goal.invariant-loop-top

@@ -1,6 +1,6 @@
 use Rattle.std.proofs.Common.{ℕ, refl, ◌-◌, ◌≤◌, ◌∙◌, arith, ap, length, get_or}
 use Rattle.std.proofs.lemmas.List.{length-set}
-use Rattle.clause_counters.specs.Links.{link_at}
+use Rattle.clause_counters.proofs.Words.{link_at}
 use Rattle.clause_counters.proofs.CountLaws.{lower_step, first_counted}
 use Rattle.clause_counters.proofs.LinkLaws.{rest_within}
 use Rattle.clause_counters.proofs.groups.lower_clauses.Goals as goal

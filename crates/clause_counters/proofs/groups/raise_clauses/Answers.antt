@@ -1,6 +1,6 @@
 use Rattle.std.proofs.Common.{ℕ, refl, ◌≡◌, ◌+◌, ◌-◌, ◌≤◌, ◌∙◌, arith, ap, subst, length, get_or}
 use Rattle.std.proofs.lemmas.List.{length-set}
-use Rattle.clause_counters.specs.Links.{link_at}
+use Rattle.clause_counters.proofs.Words.{link_at}
 use Rattle.clause_counters.proofs.CountLaws.{raise_step, first_counted, known_first}
 use Rattle.clause_counters.proofs.LinkLaws.{rest_within, count_unrolled}
 use Rattle.clause_counters.proofs.groups.raise_clauses.Goals as goal

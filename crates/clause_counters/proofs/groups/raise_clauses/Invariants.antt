@@ -1,6 +1,5 @@
 use Rattle.std.proofs.Common.{◌≡◌, ◌≤◌, ◌+◌, ℕ, length}
-use Rattle.std.specs.Prelude.{slice_index}
-use Rattle.clause_counters.specs.Links.{numbers_at, count}
+use Rattle.clause_counters.proofs.Words.{count, numbers_at, slice_index}
 use Rattle.clause_counters.proofs.groups.raise_clauses.Given as goal
 
 abbrev pub invariant-loop-rest : goal.invariant-loop-rest

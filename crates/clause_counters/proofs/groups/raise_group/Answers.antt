@@ -1,8 +1,6 @@
 use Rattle.std.proofs.Common.{◌≡◌, ◌<◌, sym, ap, subst, ◌∙◌, arith, length}
 use Rattle.std.proofs.lemmas.List.{get_or_read_under}
-use Rattle.clause_counters.specs.declared.groups.Group.{Group}
-use Rattle.clause_counters.specs.Links.{numbers_at, count}
-use Rattle.clause_counters.specs.Counted.{group_at, no_group}
+use Rattle.clause_counters.proofs.Words.{count, Group, group_at, no_group, numbers_at}
 use Rattle.clause_counters.proofs.CountLaws.{of_group, closed_group}
 use Rattle.clause_counters.proofs.groups.raise_group.Goals as goal
 

@@ -1,6 +1,5 @@
 use Rattle.std.proofs.Common.{◌≡◌, ◌++◌, ◌+◌, ◌≤◌, map, take, length}
-use Rattle.std.specs.Prelude.{vec_len, vec_capacity}
-use Rattle.decisions.specs.Literals.{Pos}
+use Rattle.clause_counters.proofs.Words.{Pos, vec_capacity, vec_len}
 use Rattle.clause_counters.proofs.rows.append_positive.Given as goal
 
 abbrev pub invariant-loop-variable : goal.invariant-loop-variable

@@ -1,5 +1,5 @@
 use Rattle.std.proofs.Common.{◌≡◌, map, take}
-use Rattle.clause_counters.specs.GroupedClauses.{row_literals}
+use Rattle.clause_counters.proofs.Words.{row_literals}
 use Rattle.clause_counters.proofs.rows.positive_literals.Given as goal
 
 abbrev pub invariant-loop-list : goal.invariant-loop-list

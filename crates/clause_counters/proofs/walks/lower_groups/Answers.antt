@@ -1,7 +1,5 @@
 use Rattle.std.proofs.Common.{refl, ◌-◌, ◌≤◌, ◌∙◌, arith, ap}
-use Rattle.clause_counters.specs.declared.groups.Group.{Group}
-use Rattle.clause_counters.specs.Links.{link_at}
-use Rattle.clause_counters.specs.Counted.{no_group, group_at, clause_lists}
+use Rattle.clause_counters.proofs.Words.{clause_lists, Group, group_at, link_at, no_group}
 use Rattle.clause_counters.proofs.CountLaws.{lower_step, first_counted, lists_told}
 use Rattle.clause_counters.proofs.LinkLaws.{rest_within}
 use Rattle.clause_counters.proofs.walks.lower_groups.Goals as goal

@@ -1,6 +1,5 @@
 use Rattle.std.proofs.Common.{◌≡◌, ◌≤◌, ◌+◌, ℕ, length}
-use Rattle.clause_counters.specs.Links.{numbers_at, count}
-use Rattle.clause_counters.specs.Counted.{CountsMembers, group_at, clause_lists}
+use Rattle.clause_counters.proofs.Words.{clause_lists, count, CountsMembers, group_at, numbers_at}
 use Rattle.clause_counters.proofs.walks.lower_groups.Given as goal
 
 abbrev pub invariant-loop-rest : goal.invariant-loop-rest

@@ -1,8 +1,6 @@
 use Rattle.std.proofs.Common.{refl, ◌≡◌, ◌+◌, ◌-◌, ◌≤◌, ◌<◌, ◌∙◌, arith, ap, sym, subst, length}
 use Rattle.std.proofs.lemmas.List.{length-set}
-use Rattle.clause_counters.specs.declared.groups.Group.{Group}
-use Rattle.clause_counters.specs.Links.{link_at}
-use Rattle.clause_counters.specs.Counted.{no_group, group_at, clause_lists}
+use Rattle.clause_counters.proofs.Words.{clause_lists, Group, group_at, link_at, no_group}
 use Rattle.clause_counters.proofs.CountLaws.{raise_step, first_counted, known_first, lists_told}
 use Rattle.clause_counters.proofs.LinkLaws.{rest_within, count_unrolled}
 use Rattle.clause_counters.proofs.walks.raise_groups.Goals as goal

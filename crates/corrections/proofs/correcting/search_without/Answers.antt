@@ -1,24 +1,14 @@
 use Rattle.std.proofs.Common.{◌∙◌, List, subst}
-use Rattle.resolvo_pool.specs.Functions.{Provider, gathered}
-use Rattle.resolvo_pool.specs.Types.ConditionalRequirement.{ConditionalRequirement}
-use Rattle.solutions.specs.Reasons.{AreSo}
-use Rattle.solutions.specs.declared.reason.Reason.{Reason}
-use Rattle.picking.specs.Answers.{GivesEnough, GivesSo}
-use Rattle.corrections.specs.Corrections.{AreNamedMarked}
+use Rattle.corrections.proofs.Words.{AreNamedMarked, AreSo, ConditionalRequirement, gathered, GivesEnough, GivesSo}
+use Rattle.corrections.proofs.Words.{Reason}
 use Rattle.corrections.proofs.CorrectionLemmas.{conflict_by_reasons}
-use Rattle.corrections.proofs.correcting.search_without.Given.{Over}
 use Rattle.corrections.proofs.correcting.search_without.Goals as goal
-
--- the provider's functions
-abbrev provided : (g : Over) → g.row.D.Denot → Provider g.row.D-NameId.Denot g.row.D-SolvableId.Denot
-provided g = gathered g.D.NameId.PartialEq.eq g.D.SolvableId.PartialEq.eq g.D.NameId.Slots.IdMap.is_too_large
-    g.D.SolvableId.Slots.IdMap.is_too_large
-    g.D.SolvableId.Set.IdSet.is_too_large g.D.NameId.SolverId.are_many g.D.Interner.universe
-    g.D.DependencyProvider.answers
 
 pub returns-in-Unsolvable-clause-conflict : goal.returns-in-Unsolvable-clause-conflict
 returns-in-Unsolvable-clause-conflict g c =
-    let p = provided g c.args.provider.now in
+    let p = gathered g.D.NameId.PartialEq.eq g.D.SolvableId.PartialEq.eq g.D.NameId.Slots.IdMap.is_too_large
+    g.D.SolvableId.Slots.IdMap.is_too_large g.D.SolvableId.Set.IdSet.is_too_large g.D.NameId.SolverId.are_many
+    g.D.Interner.universe g.D.DependencyProvider.answers c.args.provider.now in
     let requested = c.args.task.now.requested.now in
     let left_out = c.args.left_out.now in
     let reasons = c.in-Unsolvable.refutation.reasons.items in

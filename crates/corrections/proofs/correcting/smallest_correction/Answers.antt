@@ -1,20 +1,10 @@
 use Rattle.std.proofs.Common.{◌≡◌, ◌∙◌, ◌++◌, ◌∷◌, [], Bool, List, ap, refl, rules, subst, sym}
-use Rattle.std.specs.declared.vec.Vec.{Vec}
 use Rattle.std.proofs.lemmas.List.Elements.{All-nil}
-use Rattle.resolvo_pool.specs.Functions.{Provider, gathered}
-use Rattle.resolvo_pool.specs.Types.ConditionalRequirement.{ConditionalRequirement}
-use Rattle.corrections.specs.Corrections.{AreConflicts, IsConflict, IsCover, IsSmallest}
-use Rattle.corrections.specs.Outcomes.{IfFound, IfNext}
-use Rattle.corrections.specs.declared.correcting.Correction.{Correction}
+use Rattle.corrections.proofs.Words.{AreConflicts, ConditionalRequirement, Correction, IfFound, IfNext, IsConflict}
+use Rattle.corrections.proofs.Words.{IsCover, IsSmallest, Vec}
 use Rattle.corrections.proofs.CorrectionLemmas.{cover_of_empty}
-use Rattle.corrections.proofs.correcting.smallest_correction.Given.{Over}
+use Rattle.corrections.proofs.correcting.smallest_correction.Invariants.{provided}
 use Rattle.corrections.proofs.correcting.smallest_correction.Goals as goal
-
--- the provider's functions
-abbrev provided : (g : Over) → g.row.D.Denot → Provider g.row.D-NameId.Denot g.row.D-SolvableId.Denot
-provided g = gathered g.D.NameId.PartialEq.eq g.D.SolvableId.PartialEq.eq g.D.NameId.Slots.IdMap.is_too_large
-    g.D.SolvableId.Slots.IdMap.is_too_large g.D.SolvableId.Set.IdSet.is_too_large g.D.NameId.SolverId.are_many
-    g.D.Interner.universe g.D.DependencyProvider.answers
 
 pub sizes-init : goal.sizes-init
 sizes-init g c =

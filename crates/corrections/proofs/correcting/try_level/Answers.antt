@@ -1,19 +1,9 @@
 use Rattle.std.proofs.Common.{Bool, List, length, subst}
-use Rattle.std.specs.declared.vec.Vec.{Vec}
 use Rattle.std.proofs.lemmas.List.{take_all}
-use Rattle.resolvo_pool.specs.Functions.{Provider, gathered}
-use Rattle.corrections.specs.Corrections.{IsConflict}
-use Rattle.corrections.specs.Marks.{Extends}
-use Rattle.corrections.specs.Outcomes.{IfConflict}
+use Rattle.corrections.proofs.Words.{Extends, IfConflict, IsConflict, Vec}
 use Rattle.corrections.proofs.CorrectionLemmas.{AreRefuted, covered, refuted_more, smallest_found}
-use Rattle.corrections.proofs.correcting.try_level.Given.{Over}
+use Rattle.corrections.proofs.correcting.try_level.Invariants.{provided}
 use Rattle.corrections.proofs.correcting.try_level.Goals as goal
-
--- the provider's functions
-abbrev provided : (g : Over) → g.row.D.Denot → Provider g.row.D-NameId.Denot g.row.D-SolvableId.Denot
-provided g = gathered g.D.NameId.PartialEq.eq g.D.SolvableId.PartialEq.eq g.D.NameId.Slots.IdMap.is_too_large
-    g.D.SolvableId.Slots.IdMap.is_too_large g.D.SolvableId.Set.IdSet.is_too_large g.D.NameId.SolverId.are_many
-    g.D.Interner.universe g.D.DependencyProvider.answers
 
 pub returns-in-Solved-clause-smallest : goal.returns-in-Solved-clause-smallest
 returns-in-Solved-clause-smallest g c =

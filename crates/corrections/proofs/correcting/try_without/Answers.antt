@@ -1,21 +1,15 @@
 use Rattle.std.proofs.Common.{◌≡◌, ◌++◌, ◌∷◌, [], Bool, List, subst, sym, rules}
-use Rattle.std.specs.List.{Contains}
-use Rattle.std.specs.declared.vec.Vec.{Vec}
 use Rattle.std.proofs.lemmas.List.Elements.{All-contains, All-push}
-use Rattle.resolvo_pool.specs.Functions.{Provider, gathered}
-use Rattle.corrections.specs.Corrections.{AreConflicts, IsConflict}
-use Rattle.corrections.specs.Marks.{AreApart}
-use Rattle.corrections.specs.Outcomes.{IfConflict}
+use Rattle.corrections.proofs.Words.{AreApart, AreConflicts, Contains, gathered, IfConflict, IsConflict, Provider, Vec}
 use Rattle.corrections.proofs.correcting.try_without.Given.{Over}
-use Rattle.corrections.proofs.correcting.try_without.Goals as goal
 use Rattle.corrections.proofs.correcting.try_without.Goals.{in-Conflict+in_ok-to_vec-2+in_ok-push, in_default-tried}
+use Rattle.corrections.proofs.correcting.try_without.Goals as goal
 
 -- the provider's functions
 abbrev provided : (g : Over) → g.row.D.Denot → Provider g.row.D-NameId.Denot g.row.D-SolvableId.Denot
 provided g = gathered g.D.NameId.PartialEq.eq g.D.SolvableId.PartialEq.eq g.D.NameId.Slots.IdMap.is_too_large
-    g.D.SolvableId.Slots.IdMap.is_too_large
-    g.D.SolvableId.Set.IdSet.is_too_large g.D.NameId.SolverId.are_many g.D.Interner.universe
-    g.D.DependencyProvider.answers
+    g.D.SolvableId.Slots.IdMap.is_too_large g.D.SolvableId.Set.IdSet.is_too_large g.D.NameId.SolverId.are_many
+    g.D.Interner.universe g.D.DependencyProvider.answers
 
 pub returns-in-Some-clause-conflict : goal.returns-in-Some-clause-conflict
 returns-in-Some-clause-conflict g c = λ left apart.

@@ -1,10 +1,9 @@
 use Rattle.std.proofs.Common.{◌≡◌, ◌∙◌, ℕ, Bool, true, false, true≢false, subst, sym, below_more, inl, inr, arith}
-use Rattle.std.specs.declared.vec.Vec.{Vec}
 use Rattle.std.proofs.lemmas.Bool.{cases_lt}
 use Rattle.std.proofs.lemmas.List.{get_or_past}
-use Rattle.corrections.specs.Marks.{HasNone, is_marked}
-use Rattle.corrections.proofs.marks.add_extensions.Goals as goal
+use Rattle.corrections.proofs.Words.{HasNone, is_marked, Vec}
 use Rattle.corrections.proofs.marks.add_extensions.Goals.{then-is_in_conflict+in_ok-add_with, else-is_in_conflict}
+use Rattle.corrections.proofs.marks.add_extensions.Goals as goal
 
 pub loop-place-preserved : goal.loop-place-preserved
 loop-place-preserved g c = λ other none.

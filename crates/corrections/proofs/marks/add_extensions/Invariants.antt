@@ -1,5 +1,5 @@
 use Rattle.std.proofs.Common.{◌≡◌, ℕ, ◌<◌, List, Bool, true, false}
-use Rattle.corrections.specs.Marks.{HasNone, IsWithin, is_marked}
+use Rattle.corrections.proofs.Words.{HasNone, is_marked, IsWithin}
 use Rattle.corrections.proofs.marks.add_extensions.Given as goal
 
 abbrev pub invariant-loop-place : goal.invariant-loop-place

@@ -1,7 +1,5 @@
 use Rattle.std.proofs.Common.{◌≡◌, ◌++◌, ◌∷◌, Bool, List, [], refl, subst, rules}
-use Rattle.std.specs.List.{Any}
-use Rattle.std.specs.declared.vec.Vec.{Vec}
-use Rattle.corrections.specs.Marks.{IsWithin}
+use Rattle.corrections.proofs.Words.{Any, IsWithin, Vec}
 use Rattle.corrections.proofs.MarkLemmas.{extended_already, extended_last}
 use Rattle.corrections.proofs.marks.add_with.Goals as goal
 

@@ -1,5 +1,5 @@
 use Rattle.std.proofs.Common.{◌≡◌, ℕ, ◌<◌, true, false}
-use Rattle.corrections.specs.Marks.{is_marked}
+use Rattle.corrections.proofs.Words.{is_marked}
 use Rattle.corrections.proofs.marks.are_apart.Given as goal
 
 abbrev pub invariant-loop-place : goal.invariant-loop-place

@@ -1,9 +1,7 @@
 use Rattle.std.proofs.Common.{◌≤◌, ◌∙◌, Bool, ap, subst}
-use Rattle.std.specs.List.{All}
-use Rattle.std.specs.declared.vec.Vec.{Vec}
 use Rattle.std.proofs.lemmas.List.{take_all}
 use Rattle.std.proofs.lemmas.List.Elements.{All-more}
-use Rattle.corrections.specs.Marks.{size}
+use Rattle.corrections.proofs.Words.{All, size, Vec}
 use Rattle.corrections.proofs.marks.are_as_large.Goals as goal
 
 pub loop-set-preserved : goal.loop-set-preserved

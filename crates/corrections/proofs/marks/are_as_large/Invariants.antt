@@ -1,6 +1,5 @@
 use Rattle.std.proofs.Common.{◌≤◌, take}
-use Rattle.std.specs.List.{All}
-use Rattle.corrections.specs.Marks.{size}
+use Rattle.corrections.proofs.Words.{All, size}
 use Rattle.corrections.proofs.marks.are_as_large.Given as goal
 
 abbrev pub invariant-loop-set : goal.invariant-loop-set

@@ -1,5 +1,5 @@
 use Rattle.std.proofs.Common.{sym, subst}
-use Rattle.corrections.specs.Marks.{IsWithin}
+use Rattle.corrections.proofs.Words.{IsWithin}
 use Rattle.corrections.proofs.marks.is_any_within.Goals as goal
 
 pub returns-then-is_within : goal.returns-then-is_within

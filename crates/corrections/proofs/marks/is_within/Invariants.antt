@@ -1,5 +1,5 @@
 use Rattle.std.proofs.Common.{◌≡◌, ℕ, ◌<◌, true}
-use Rattle.corrections.specs.Marks.{is_marked}
+use Rattle.corrections.proofs.Words.{is_marked}
 use Rattle.corrections.proofs.marks.is_within.Given as goal
 
 abbrev pub invariant-loop-place : goal.invariant-loop-place

@@ -1,5 +1,5 @@
 use Rattle.std.proofs.Common.{◌≡◌, ◌++◌, drop, string_bytes}
-use Rattle.corrections.specs.Proposals.{text_of_each}
+use Rattle.corrections.proofs.Words.{text_of_each}
 use Rattle.corrections.proofs.proposals.write_each.Given as goal
 
 abbrev pub invariant-loop-requirement : goal.invariant-loop-requirement

@@ -1,7 +1,5 @@
 use Rattle.std.proofs.Common.{◌∙◌, ◌++◌, List, ap, codes, string_bytes}
-use Rattle.resolvo_pool.specs.Functions.{Provider, gathered}
-use Rattle.resolvo_pool.specs.Types.ConditionalRequirement.{ConditionalRequirement}
-use Rattle.corrections.specs.Proposals.{named_in, text_of_all}
+use Rattle.corrections.proofs.Words.{ConditionalRequirement, gathered, named_in, Provider, text_of_all}
 use Rattle.corrections.proofs.ProposalLemmas.{forbidden_by, in_three}
 use Rattle.corrections.proofs.proposals.write_proposals.Given.{Over}
 use Rattle.corrections.proofs.proposals.write_proposals.Goals as goal

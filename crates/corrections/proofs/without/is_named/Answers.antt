@@ -1,9 +1,7 @@
 use Rattle.std.proofs.Common.{◌∙◌, true≢false, subst, sym}
-use Rattle.std.specs.List.{All}
 use Rattle.std.proofs.lemmas.List.{take_all}
 use Rattle.std.proofs.lemmas.List.Elements.{All-contains, All-more}
-use Rattle.solutions.specs.declared.reason.Reason.{Reason}
-use Rattle.corrections.specs.Corrections.{IsNamedBy}
+use Rattle.corrections.proofs.Words.{All, IsNamedBy, Reason}
 use Rattle.corrections.proofs.without.is_named.Goals as goal
 
 pub loop-reason-preserved : goal.loop-reason-preserved

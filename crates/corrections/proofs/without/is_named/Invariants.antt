@@ -1,6 +1,5 @@
 use Rattle.std.proofs.Common.{take}
-use Rattle.std.specs.List.{All}
-use Rattle.corrections.specs.Corrections.{IsNamedBy}
+use Rattle.corrections.proofs.Words.{All, IsNamedBy}
 use Rattle.corrections.proofs.without.is_named.Given as goal
 
 abbrev pub invariant-loop-reason : goal.invariant-loop-reason

@@ -1,10 +1,8 @@
 use Rattle.std.proofs.Common.{◌≡◌, ◌∙◌, ◌++◌, ◌∷◌, ◌+◌, [], subst, sym, take, rules}
-use Rattle.std.specs.declared.vec.Vec.{Vec}
-use Rattle.resolvo_pool.specs.Types.ConditionalRequirement.{ConditionalRequirement}
-use Rattle.corrections.specs.Marks.{kept}
+use Rattle.corrections.proofs.Words.{ConditionalRequirement, kept, Vec}
 use Rattle.corrections.proofs.MarkLemmas.{kept_nothing, kept_passed, kept_pushed}
-use Rattle.corrections.proofs.without.kept.Goals as goal
 use Rattle.corrections.proofs.without.kept.Goals.{then-not-is_marked+in_ok-push, else-not-is_marked}
+use Rattle.corrections.proofs.without.kept.Goals as goal
 
 pub loop-place-init : goal.loop-place-init
 loop-place-init g c = c.new-rest.ensures.items ∙ sym (kept_nothing c.args.left_out.now)

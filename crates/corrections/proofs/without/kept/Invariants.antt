@@ -1,5 +1,5 @@
 use Rattle.std.proofs.Common.{◌≡◌, take}
-use Rattle.corrections.specs.Marks.{kept}
+use Rattle.corrections.proofs.Words.{kept}
 use Rattle.corrections.proofs.without.kept.Given as goal
 
 abbrev pub invariant-loop-place : goal.invariant-loop-place

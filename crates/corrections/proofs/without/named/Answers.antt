@@ -1,7 +1,6 @@
 use Rattle.std.proofs.Common.{◌≡◌, ◌++◌, ◌∷◌, [], List, subst, rules}
 use Rattle.std.proofs.lemmas.List.{take_all}
-use Rattle.resolvo_pool.specs.Types.ConditionalRequirement.{ConditionalRequirement}
-use Rattle.corrections.specs.Corrections.{AreNamedMarked}
+use Rattle.corrections.proofs.Words.{AreNamedMarked, ConditionalRequirement}
 use Rattle.corrections.proofs.CorrectionLemmas.{marked_more}
 use Rattle.corrections.proofs.without.named.Goals as goal
 

@@ -1,5 +1,5 @@
 use Rattle.std.proofs.Common.{◌≡◌, take, length}
-use Rattle.corrections.specs.Corrections.{AreNamedMarked}
+use Rattle.corrections.proofs.Words.{AreNamedMarked}
 use Rattle.corrections.proofs.without.named.Given as goal
 
 abbrev pub invariant-loop-place : goal.invariant-loop-place

@@ -1,18 +1,13 @@
-use Rattle.resolvo_pool.specs.Functions.{Provider, gathered}
+use Rattle.example_answers.proofs.Words.{gathered}
 use Rattle.example_answers.proofs.AnswerLemmas.{refuted_is}
 use Rattle.example_answers.proofs.ShownLemmas.{shows_none}
-use Rattle.example_answers.proofs.graph.write_graph.Given.{Over}
 use Rattle.example_answers.proofs.graph.write_graph.Goals as goal
-
--- the provider's functions
-abbrev provided : (g : Over) → g.row.D.Denot → Provider g.row.D-NameId.Denot g.row.D-SolvableId.Denot
-provided g = gathered g.D.NameId.PartialEq.eq g.D.SolvableId.PartialEq.eq g.D.NameId.Slots.IdMap.is_too_large
-    g.D.SolvableId.Slots.IdMap.is_too_large g.D.SolvableId.Set.IdSet.is_too_large g.D.NameId.SolverId.are_many
-    g.D.Interner.universe g.D.DependencyProvider.answers
 
 pub returns-in-Unsolvable : goal.returns-in-Unsolvable
 returns-in-Unsolvable g c shown =
-    let p = provided g c.args.provider.now in
+    let p = gathered g.D.NameId.PartialEq.eq g.D.SolvableId.PartialEq.eq g.D.NameId.Slots.IdMap.is_too_large
+    g.D.SolvableId.Slots.IdMap.is_too_large g.D.SolvableId.Set.IdSet.is_too_large g.D.NameId.SolverId.are_many
+    g.D.Interner.universe g.D.DependencyProvider.answers c.args.provider.now in
     let requested = c.args.requested.now in
     let promised = c.in_ok-refutation.ensures in
     let graph = c.in_ok-write_dot-in-Unsolvable.ensures in (

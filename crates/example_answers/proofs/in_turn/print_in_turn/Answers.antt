@@ -1,8 +1,6 @@
 use Rattle.std.proofs.Common.{◌∙◌, ◌+◌, Ok, ap, inl, map, subst}
-use Rattle.index_text.specs.Indexes.{indexes_of}
-use Rattle.index_text.specs.PlainLines.{plain_lines}
 use Rattle.script_text.proofs.Calls.{calls_more}
-use Rattle.example_answers.specs.Printed.{Prints}
+use Rattle.example_answers.proofs.Words.{indexes_of, plain_lines, Prints}
 use Rattle.example_answers.proofs.PrintLemmas.{ends_so, flushed, prints_so, so_far_none, unflushed}
 use Rattle.example_answers.proofs.in_turn.print_in_turn.Goals as goal
 

@@ -1,9 +1,8 @@
 use Rattle.std.proofs.Common.{◌≤◌, List, arith, length, map, refl, string_bytes, subst}
 use Rattle.std.proofs.Common.{◌≤◌, List, arith, length, map, refl, string_bytes, subst}
 use Rattle.std.proofs.lemmas.List.{length-map}
-use Rattle.index_text.specs.PlainLines.{plain_line, plain_lines}
-use Rattle.index_text.specs.declared.line.Line.{Line}
 use Rattle.script_text.proofs.Calls.{GivesUp-after, GoesWell-trans}
+use Rattle.example_answers.proofs.Words.{Line, plain_line, plain_lines}
 use Rattle.example_answers.proofs.PrintLemmas.{all_answered, ends_so, failed_at, first_after_all, next_of, prints_so}
 use Rattle.example_answers.proofs.PrintLemmas.{so_far_more, so_far_none}
 use Rattle.example_answers.proofs.in_turn.print_indexes.Goals as goal

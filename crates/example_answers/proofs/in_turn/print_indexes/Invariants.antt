@@ -1,6 +1,5 @@
 use Rattle.std.proofs.Common.{map}
-use Rattle.index_text.specs.PlainLines.{plain_lines}
-use Rattle.script_text.specs.Devices.{GoesWell}
+use Rattle.example_answers.proofs.Words.{GoesWell, plain_lines}
 use Rattle.example_answers.proofs.PrintLemmas.{SoFar}
 use Rattle.example_answers.proofs.in_turn.print_indexes.Given as goal
 

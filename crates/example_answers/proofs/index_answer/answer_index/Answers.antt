@@ -1,8 +1,6 @@
 use Rattle.std.proofs.Common.{[], Ok, string_bytes}
-use Rattle.index_text.specs.Index.{IndexText}
-use Rattle.index_text.specs.Formats.{Numbers}
-use Rattle.example_index.specs.declared.fault.IndexFault.TheVariants.{Refused}
 use Rattle.std.proofs.lemmas.Result.{IfOk-weaker}
+use Rattle.example_answers.proofs.Words.{IndexText, Numbers, Refused}
 use Rattle.example_answers.proofs.IndexLemmas.{index_answered, of_fault}
 use Rattle.example_answers.proofs.index_answer.answer_index.Goals as goal
 

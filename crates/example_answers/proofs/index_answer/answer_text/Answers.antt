@@ -1,5 +1,5 @@
 use Rattle.std.proofs.Common.{inl}
-use Rattle.resolvo_ids.specs.Types.StoreError.TheVariants.{OutOfMemory}
+use Rattle.example_answers.proofs.Words.{OutOfMemory}
 use Rattle.example_answers.proofs.IndexLemmas.{refused_unreadable}
 use Rattle.example_answers.proofs.index_answer.answer_text.Goals as goal
 

@@ -1,5 +1,5 @@
 use Rattle.std.proofs.Common.{◌∙◌, ◌++◌, [], ◌∷◌, ap, rules, sym}
-use Rattle.std.specs.List.{range_with_len}
+use Rattle.example_answers.proofs.Words.{range_with_len}
 use Rattle.example_answers.proofs.NameLemmas.{range_more}
 use Rattle.example_answers.proofs.names.names_of.Goals as goal
 

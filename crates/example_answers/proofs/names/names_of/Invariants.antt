@@ -1,5 +1,5 @@
 use Rattle.std.proofs.Common.{◌≡◌, ◌≤◌, length}
-use Rattle.std.specs.List.{range_with_len}
+use Rattle.example_answers.proofs.Words.{range_with_len}
 use Rattle.example_answers.proofs.names.names_of.Given as goal
 
 abbrev pub invariant-loop-place : goal.invariant-loop-place

@@ -1,6 +1,6 @@
 use Rattle.std.proofs.Common.{◌++◌, ◌∙◌, ap, codes, string_bytes, append_assoc}
 use Rattle.std.proofs.lemmas.Result.{IfOk-equal}
-use Rattle.example_answers.specs.Reasons.{text_of_name}
+use Rattle.example_answers.proofs.Words.{text_of_name}
 use Rattle.example_answers.proofs.reasons.write_reason.Goals as goal
 
 -- src/reasons.rt:34:1

@@ -1,6 +1,5 @@
 use Rattle.std.proofs.Common.{◌≡◌, ◌++◌, drop, string_bytes}
-use Rattle.example_answers.specs.Answers.{lines_of}
-use Rattle.example_answers.specs.Reasons.{text_of_reason}
+use Rattle.example_answers.proofs.Words.{lines_of, text_of_reason}
 use Rattle.example_answers.proofs.reasons.write_reasons.Given as goal
 
 abbrev pub invariant-loop-reason : goal.invariant-loop-reason

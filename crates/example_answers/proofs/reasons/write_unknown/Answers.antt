@@ -1,5 +1,5 @@
 use Rattle.std.proofs.Common.{◌++◌, ◌∙◌, ap, codes, string_bytes, append_assoc}
-use Rattle.example_answers.specs.Reasons.{text_of_solvable}
+use Rattle.example_answers.proofs.Words.{text_of_solvable}
 use Rattle.example_answers.proofs.reasons.write_unknown.Goals as goal
 
 pub returns : goal.returns

@@ -1,7 +1,6 @@
 use Rattle.std.proofs.Common.{◌∙◌}
-use Rattle.resolvo_pool.specs.Functions.{Provider, gathered}
 use Rattle.corrections.proofs.ProposalLemmas.{forbidden_by}
-use Rattle.example_answers.specs.Answers.{NotShown}
+use Rattle.example_answers.proofs.Words.{gathered, NotShown, Provider}
 use Rattle.example_answers.proofs.AnswerLemmas.{as_many_ranks, in_turn, picked_is, refuted_is}
 use Rattle.example_answers.proofs.ExplainLemmas.{caused_are, explains_solution, reports_none}
 use Rattle.example_answers.proofs.why.write_explained.Given.{Over}

@@ -1,6 +1,5 @@
 use Rattle.std.proofs.Common.{◌∙◌}
-use Rattle.resolvo_pool.specs.Functions.{Provider, gathered}
-use Rattle.example_answers.specs.Answers.{NotShown}
+use Rattle.example_answers.proofs.Words.{gathered, NotShown, Provider}
 use Rattle.example_answers.proofs.AnswerLemmas.{as_many_ranks, in_turn, picked_is, refuted_is}
 use Rattle.example_answers.proofs.AnswerLemmas.{says_no_solution, says_solution}
 use Rattle.example_answers.proofs.writing.write_answer.Given.{Over}
@@ -9,9 +8,8 @@ use Rattle.example_answers.proofs.writing.write_answer.Goals as goal
 -- the provider's functions
 abbrev provided : (g : Over) → g.row.D.Denot → Provider g.row.D-NameId.Denot g.row.D-SolvableId.Denot
 provided g = gathered g.D.NameId.PartialEq.eq g.D.SolvableId.PartialEq.eq g.D.NameId.Slots.IdMap.is_too_large
-    g.D.SolvableId.Slots.IdMap.is_too_large
-    g.D.SolvableId.Set.IdSet.is_too_large g.D.NameId.SolverId.are_many g.D.Interner.universe
-    g.D.DependencyProvider.answers
+    g.D.SolvableId.Slots.IdMap.is_too_large g.D.SolvableId.Set.IdSet.is_too_large g.D.NameId.SolverId.are_many
+    g.D.Interner.universe g.D.DependencyProvider.answers
 
 -- src/writing.rt:14:1
 pub returns-in_ok-write_best-in-Picked : goal.returns-in_ok-write_best-in-Picked

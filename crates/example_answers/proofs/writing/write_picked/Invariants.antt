@@ -1,5 +1,5 @@
 use Rattle.std.proofs.Common.{◌≡◌, ◌++◌, drop, string_bytes}
-use Rattle.example_answers.specs.Answers.{lines_of}
+use Rattle.example_answers.proofs.Words.{lines_of}
 use Rattle.example_answers.proofs.writing.write_picked.Given as goal
 
 abbrev pub invariant-loop-solvable : goal.invariant-loop-solvable

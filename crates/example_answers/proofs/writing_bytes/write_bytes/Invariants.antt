@@ -1,6 +1,5 @@
 use Rattle.std.proofs.Common.{◌≡◌, ◌++◌, List, ℕ}
-use Rattle.std.specs.Io.KnownBytes.{Appends}
-use Rattle.script_text.specs.Devices.{Calls}
+use Rattle.example_answers.proofs.Words.{Appends, Calls}
 use Rattle.example_answers.proofs.writing_bytes.write_bytes.Given as goal
 
 abbrev pub invariant-loop : goal.invariant-loop

@@ -1,18 +1,12 @@
 use Rattle.example_answers.proofs.AnswerLemmas.{refuted_is}
-use Rattle.resolvo_pool.specs.Functions.{Provider, gathered}
-use Rattle.example_certificates.proofs.certifying.certificate.Given.{Over}
+use Rattle.resolvo_pool.specs.Functions.{gathered}
 use Rattle.example_certificates.proofs.certifying.certificate.Goals as goal
-
--- the provider's functions
-abbrev provided : (g : Over) → g.row.D.Denot → Provider g.row.D-NameId.Denot g.row.D-SolvableId.Denot
-provided g = gathered g.D.NameId.PartialEq.eq g.D.SolvableId.PartialEq.eq g.D.NameId.Slots.IdMap.is_too_large
-    g.D.SolvableId.Slots.IdMap.is_too_large
-    g.D.SolvableId.Set.IdSet.is_too_large g.D.NameId.SolverId.are_many g.D.Interner.universe
-    g.D.DependencyProvider.answers
 
 pub returns-in-Unsolvable : goal.returns-in-Unsolvable
 returns-in-Unsolvable g c =
-    let p = provided g c.args.provider.now in
+    let p = gathered g.D.NameId.PartialEq.eq g.D.SolvableId.PartialEq.eq g.D.NameId.Slots.IdMap.is_too_large
+    g.D.SolvableId.Slots.IdMap.is_too_large g.D.SolvableId.Set.IdSet.is_too_large g.D.NameId.SolverId.are_many
+    g.D.Interner.universe g.D.DependencyProvider.answers c.args.provider.now in
     let promised = c.in_ok-refutation.ensures in
     record {
       refutation = c.in-Unsolvable.refutation;

@@ -1,5 +1,5 @@
 use Rattle.std.proofs.Common.{◌≡◌, ◌++◌, drop}
-use Rattle.example_index.specs.Index.{here, of_name}
+use Rattle.example_index.proofs.Words.{here, of_name}
 use Rattle.example_index.proofs.index.named.Given as goal
 
 abbrev pub invariant-loop-solvable : goal.invariant-loop-solvable

@@ -1,8 +1,5 @@
 use Rattle.std.proofs.Common.{◌≡◌, ◌++◌, drop, ℕ, Bool}
-use Rattle.resolvo_pool.specs.Pool.{Lists}
-use Rattle.resolvo_pool.specs.Provider.{filtered}
-use Rattle.example_index.specs.declared.range.VersionRange.{VersionRange}
-use Rattle.example_index.specs.Index.{is_within, version_in}
+use Rattle.example_index.proofs.Words.{filtered, is_within, Lists, version_in, VersionRange}
 use Rattle.example_index.proofs.index.within.Given as goal
 
 -- whether a solvable's version is in the range

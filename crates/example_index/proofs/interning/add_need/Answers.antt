@@ -1,7 +1,5 @@
 use Rattle.std.proofs.Common.{map, subst}
-use Rattle.index_text.specs.Plain.{plain_need, plain_sets}
-use Rattle.example_index.specs.Listed.{with_bytes}
-use Rattle.example_index.specs.Meaning.{IsConditionOr}
+use Rattle.example_index.proofs.Words.{IsConditionOr, plain_need, plain_sets, with_bytes}
 use Rattle.example_index.proofs.Later.{later_bytes, later_twice, union_still}
 use Rattle.example_index.proofs.interning.add_need.Goals as goal
 

@@ -1,7 +1,5 @@
 use Rattle.std.proofs.Common.{arith, ◌∙◌, ◌∷◌, map, take, sym, subst}
-use Rattle.index_text.specs.Plain.{plain_sets}
-use Rattle.example_index.specs.Listed.{with_bytes}
-use Rattle.example_index.specs.Meaning.{IsCondition}
+use Rattle.example_index.proofs.Words.{IsCondition, plain_sets, with_bytes}
 use Rattle.example_index.proofs.Later.{later_twice, map_with}
 use Rattle.std.proofs.lemmas.List.{take_all}
 use Rattle.example_index.proofs.interning.intern_alternatives.Goals as goal

@@ -1,8 +1,5 @@
 use Rattle.std.proofs.Common.{◌≡◌, ◌<◌, ◌∷◌, length, map, take}
-use Rattle.index_text.specs.Plain.{plain_sets}
-use Rattle.resolvo_pool.specs.Pool.{IsLater}
-use Rattle.example_index.specs.Listed.{with_bytes}
-use Rattle.example_index.specs.Meaning.{IsCondition}
+use Rattle.example_index.proofs.Words.{IsCondition, IsLater, plain_sets, with_bytes}
 use Rattle.example_index.proofs.interning.intern_alternatives.Given as goal
 
 -- the sets of one of the lists so far hold

@@ -1,7 +1,6 @@
 use Rattle.std.proofs.Common.{[], ◌∷◌}
 use Rattle.std.proofs.lemmas.Result.{IfOk-weaker}
-use Rattle.index_text.specs.Plain.{plain_set}
-use Rattle.example_index.specs.Listed.{with_bytes}
+use Rattle.example_index.proofs.Words.{plain_set, with_bytes}
 use Rattle.example_index.proofs.Conditions.{both_conditions}
 use Rattle.example_index.proofs.Later.{condition_still, later_bytes, later_twice}
 use Rattle.example_index.proofs.interning.intern_both.Goals as goal

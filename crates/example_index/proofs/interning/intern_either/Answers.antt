@@ -1,7 +1,6 @@
 use Rattle.std.proofs.Common.{[], ◌∷◌}
 use Rattle.std.proofs.lemmas.Result.{IfOk-weaker}
-use Rattle.index_text.specs.Plain.{plain_sets}
-use Rattle.example_index.specs.Listed.{with_bytes}
+use Rattle.example_index.proofs.Words.{plain_sets, with_bytes}
 use Rattle.example_index.proofs.Conditions.{either_condition}
 use Rattle.example_index.proofs.Later.{condition_still, later_bytes, later_twice}
 use Rattle.example_index.proofs.interning.intern_either.Goals as goal

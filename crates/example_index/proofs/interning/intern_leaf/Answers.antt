@@ -1,6 +1,5 @@
 use Rattle.std.proofs.lemmas.Result.{IfOk-weaker}
-use Rattle.index_text.specs.Plain.{plain_set}
-use Rattle.example_index.specs.Listed.{with_bytes}
+use Rattle.example_index.proofs.Words.{plain_set, with_bytes}
 use Rattle.example_index.proofs.Conditions.{leaf_condition}
 use Rattle.example_index.proofs.Later.{set_still, later_bytes}
 use Rattle.example_index.proofs.Later.{later_twice}

@@ -1,6 +1,5 @@
 use Rattle.std.proofs.Common.{◌≡◌, ◌∙◌, ap, map, subst, sym, Some}
-use Rattle.std.specs.String.{string_bytes}
-use Rattle.example_index.specs.Meaning.{first_place}
+use Rattle.example_index.proofs.Words.{first_place, string_bytes}
 use Rattle.example_index.proofs.Interned.{name_at}
 use Rattle.example_index.proofs.interning.intern_new_name.Goals as goal
 

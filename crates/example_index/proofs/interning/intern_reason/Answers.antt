@@ -1,8 +1,5 @@
 use Rattle.std.proofs.Common.{◌∙◌, ap, Some}
-use Rattle.std.specs.Prelude.{slice_get}
-use Rattle.std.specs.Str.{bytes_eq}
-use Rattle.std.specs.String.{string_bytes}
-use Rattle.resolvo_pool.specs.Interned.{interned}
+use Rattle.example_index.proofs.Words.{bytes_eq, interned, slice_get, string_bytes}
 use Rattle.example_index.proofs.Interned.{string_at}
 use Rattle.example_index.proofs.interning.intern_reason.Goals as goal
 

@@ -1,11 +1,6 @@
 use Rattle.std.proofs.Common.{arith, ◌≡◌, ◌∙◌, ap, map, sym, subst, Some}
-use Rattle.std.specs.Prelude.{slice_get}
-use Rattle.std.specs.String.{string_bytes}
-use Rattle.resolvo_pool.specs.Interned.{interned}
-use Rattle.resolvo_pool.specs.Pool.{same_set}
-use Rattle.example_index.specs.Meaning.{first_place}
-use Rattle.example_index.specs.declared.range.VersionRange.{VersionRange}
 use Rattle.std.proofs.lemmas.List.{length-map}
+use Rattle.example_index.proofs.Words.{first_place, interned, same_set, slice_get, string_bytes, VersionRange}
 use Rattle.example_index.proofs.Later.{named_here}
 use Rattle.example_index.proofs.Interned.{set_at, VersionRangeEq}
 use Rattle.example_index.proofs.interning.intern_set.Goals as goal

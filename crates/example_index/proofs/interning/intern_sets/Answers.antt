@@ -1,8 +1,5 @@
 use Rattle.std.proofs.Common.{arith, ◌∙◌, [], ◌∷◌, ◌++◌, ◌+◌, map, take, sym, subst}
-use Rattle.std.specs.List.{AllZip}
-use Rattle.index_text.specs.Plain.{plain_set}
-use Rattle.example_index.specs.Listed.{with_bytes}
-use Rattle.example_index.specs.Meaning.{IsSet}
+use Rattle.example_index.proofs.Words.{AllZip, IsSet, plain_set, with_bytes}
 use Rattle.example_index.proofs.Later.{later_twice, later_bytes, map_more, zip_push, sets_still}
 use Rattle.std.proofs.lemmas.List.{take_all}
 use Rattle.example_index.proofs.interning.intern_sets.Goals as goal

@@ -1,9 +1,5 @@
 use Rattle.std.proofs.Common.{◌≡◌, map, take}
-use Rattle.std.specs.List.{AllZip}
-use Rattle.index_text.specs.Plain.{plain_set}
-use Rattle.resolvo_pool.specs.Pool.{IsLater}
-use Rattle.example_index.specs.Listed.{with_bytes}
-use Rattle.example_index.specs.Meaning.{IsSet}
+use Rattle.example_index.proofs.Words.{AllZip, IsLater, IsSet, plain_set, with_bytes}
 use Rattle.example_index.proofs.interning.intern_sets.Given as goal
 
 -- the sets so far

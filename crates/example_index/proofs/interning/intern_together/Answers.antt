@@ -1,7 +1,5 @@
 use Rattle.std.proofs.Common.{ap, arith, ◌∙◌, ◌+◌, [], ◌∷◌, length, map, take, sym, subst}
-use Rattle.index_text.specs.Plain.{plain_set}
-use Rattle.example_index.specs.Listed.{with_bytes}
-use Rattle.example_index.specs.Meaning.{IsCondition}
+use Rattle.example_index.proofs.Words.{IsCondition, plain_set, with_bytes}
 use Rattle.example_index.proofs.Later.{later_twice, map_more}
 use Rattle.std.proofs.lemmas.List.{take_all}
 use Rattle.example_index.proofs.interning.intern_together.Goals as goal

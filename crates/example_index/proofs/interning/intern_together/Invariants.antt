@@ -1,8 +1,5 @@
 use Rattle.std.proofs.Common.{◌≡◌, ◌<◌, [], ◌∷◌, length, map, take}
-use Rattle.index_text.specs.Plain.{plain_set}
-use Rattle.resolvo_pool.specs.Pool.{IsLater}
-use Rattle.example_index.specs.Listed.{with_bytes}
-use Rattle.example_index.specs.Meaning.{IsCondition}
+use Rattle.example_index.proofs.Words.{IsCondition, IsLater, plain_set, with_bytes}
 use Rattle.example_index.proofs.interning.intern_together.Given as goal
 
 -- the sets so far hold

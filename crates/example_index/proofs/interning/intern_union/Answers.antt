@@ -1,9 +1,5 @@
 use Rattle.std.proofs.Common.{◌∷◌, ◌<◌, map, sym, subst, length}
-use Rattle.std.specs.List.{AllZip}
-use Rattle.std.specs.Prelude.{All}
-use Rattle.index_text.specs.Plain.{plain_set}
-use Rattle.example_index.specs.Listed.{with_bytes}
-use Rattle.example_index.specs.Meaning.{IsSet}
+use Rattle.example_index.proofs.Words.{All, AllZip, IsSet, plain_set, with_bytes}
 use Rattle.example_index.proofs.Later.{later_bytes, sets_here, set_still}
 use Rattle.example_index.proofs.UnionLemmas.{union_made}
 use Rattle.example_index.proofs.interning.intern_union.Goals as goal

@@ -1,6 +1,5 @@
 use Rattle.std.proofs.Common.{◌≡◌, drop}
-use Rattle.example_index.specs.Index.{here, of_name}
-use Rattle.example_index.specs.Notes.{has_within}
+use Rattle.example_index.proofs.Words.{has_within, here, of_name}
 use Rattle.example_index.proofs.notes.has_within.Given as goal
 
 -- no version so far is within

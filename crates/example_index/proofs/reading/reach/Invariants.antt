@@ -1,6 +1,5 @@
 use Rattle.std.proofs.Common.{◌≤◌, ℕ, length}
-use Rattle.std.specs.Prelude.{slice_get}
-use Rattle.example_index.specs.Package.{IsSame}
+use Rattle.example_index.proofs.Words.{IsSame, slice_get}
 use Rattle.example_index.proofs.reading.reach.Given as goal
 
 abbrev pub invariant-loop : goal.invariant-loop

@@ -1,6 +1,5 @@
 use Rattle.std.proofs.Common.{◌≡◌, drop, map}
-use Rattle.index_text.specs.Plain.{plain_entry}
-use Rattle.example_index.specs.Listed.{has_favored}
+use Rattle.example_index.proofs.Words.{has_favored, plain_entry}
 use Rattle.example_index.proofs.states.has_favored.Given as goal
 
 abbrev pub invariant-loop-entry : goal.invariant-loop-entry

@@ -1,6 +1,5 @@
 use Rattle.std.proofs.Common.{◌≡◌, drop, map}
-use Rattle.index_text.specs.Plain.{plain_entry}
-use Rattle.example_index.specs.Listed.{has_locked}
+use Rattle.example_index.proofs.Words.{has_locked, plain_entry}
 use Rattle.example_index.proofs.states.has_locked.Given as goal
 
 abbrev pub invariant-loop-entry : goal.invariant-loop-entry

@@ -1,8 +1,6 @@
 use Rattle.std.proofs.Common.{◌∙◌, arith, map, take, sym, subst}
 use Rattle.std.proofs.lemmas.List.{take_all}
-use Rattle.index_text.specs.Plain.{plain_entry}
-use Rattle.example_index.specs.Listed.{with_bytes}
-use Rattle.example_index.specs.Meaning.{AreEntries}
+use Rattle.example_index.proofs.Words.{AreEntries, plain_entry, with_bytes}
 use Rattle.example_index.proofs.Later.{later_twice, map_with}
 use Rattle.example_index.proofs.states.intern_entries.Goals as goal
 

@@ -1,8 +1,5 @@
 use Rattle.std.proofs.Common.{◌≡◌, map, take}
-use Rattle.index_text.specs.Plain.{plain_entry}
-use Rattle.resolvo_pool.specs.Pool.{IsLater}
-use Rattle.example_index.specs.Listed.{with_bytes}
-use Rattle.example_index.specs.Meaning.{AreEntries}
+use Rattle.example_index.proofs.Words.{AreEntries, IsLater, plain_entry, with_bytes}
 use Rattle.example_index.proofs.states.intern_entries.Given as goal
 
 -- what the entries so far need and limit

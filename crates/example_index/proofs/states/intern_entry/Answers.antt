@@ -1,10 +1,9 @@
 use Rattle.std.proofs.Common.{◌++◌, ◌∷◌, [], sym, subst}
 use Rattle.std.proofs.lemmas.List.{append-nil}
 use Rattle.std.proofs.lemmas.Result.{on_ok_weaker}
-use Rattle.index_text.specs.Entries.{Needs, Limits, Favored, Locked}
-use Rattle.index_text.specs.Plain.{plain_entry, plain_need, plain_set}
-use Rattle.example_index.specs.Listed.{with_bytes}
-use Rattle.example_index.specs.Meaning.{AreEntries}
+use Rattle.index_text.specs.Entries.{Needs}
+use Rattle.example_index.proofs.Words.{AreEntries, Favored, Limits, Locked, plain_entry, plain_need, plain_set}
+use Rattle.example_index.proofs.Words.{with_bytes}
 use Rattle.example_index.proofs.EntryLemmas.{entries_more}
 use Rattle.example_index.proofs.Later.{later_bytes, later_itself}
 use Rattle.example_index.proofs.states.intern_entry.Goals as goal

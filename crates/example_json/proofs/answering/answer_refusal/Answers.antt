@@ -1,6 +1,6 @@
 use Rattle.std.proofs.Common.{◌∙◌, ap}
 use Rattle.std.proofs.lemmas.Result.{IfOk-weaker}
-use Rattle.serde_json.specs.Written.{compact_text, has_float}
+use Rattle.example_json.proofs.Words.{compact_text, has_float}
 use Rattle.example_json.proofs.answering.answer_refusal.Goals as goal
 
 pub text_of-requires : goal.text_of-requires

@@ -1,6 +1,5 @@
 use Rattle.std.proofs.Common.{◌∙◌, ap}
-use Rattle.serde_json.specs.View.{view}
-use Rattle.serde_json.specs.Written.{compact_text, has_float}
+use Rattle.example_json.proofs.Words.{compact_text, has_float, view}
 use Rattle.example_json.proofs.PlainLemmas.{answer_plain}
 use Rattle.example_json.proofs.answering.answer_search.Goals as goal
 

@@ -1,8 +1,5 @@
 use Rattle.std.proofs.Common.{◌≡◌, ◌∙◌, ap}
-use Rattle.serde_json.specs.View.{view}
-use Rattle.serde_json.specs.Written.{compact_text, has_float}
-use Rattle.example_json.specs.Answers.{place_data}
-use Rattle.example_json.specs.Objects.{unreadable_data}
+use Rattle.example_json.proofs.Words.{compact_text, has_float, place_data, unreadable_data, view}
 use Rattle.example_json.proofs.PlainLemmas.{unreadable_plain}
 use Rattle.example_json.proofs.answering.answer_unreadable.Goals as goal
 

@@ -2,8 +2,7 @@ use Rattle.std.proofs.Common.{List, ℕ, Bor, ◌∙◌, ap, map}
 use Rattle.std.proofs.lemmas.Iterator.Consumers.{YieldsList-end}
 use Rattle.std.proofs.lemmas.Iterator.Splits.{YieldsList-from_lines}
 use Rattle.serde_json.proofs.Views.{view-Array}
-use Rattle.serde_json.specs.Data.{array, string}
-use Rattle.serde_json.specs.View.{items_of, view}
+use Rattle.example_json.proofs.Words.{array, items_of, string, view}
 use Rattle.example_json.proofs.GatherLemmas.{map_twice, one_taken}
 use Rattle.example_json.proofs.answering.lines_value.Goals as goal
 

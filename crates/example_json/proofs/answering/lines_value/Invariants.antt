@@ -1,6 +1,5 @@
 use Rattle.std.proofs.Common.{◌≡◌, map}
-use Rattle.serde_json.specs.Data.{string}
-use Rattle.serde_json.specs.View.{view}
+use Rattle.example_json.proofs.Words.{string, view}
 use Rattle.example_json.proofs.answering.lines_value.Given as goal
 
 -- the lines so far

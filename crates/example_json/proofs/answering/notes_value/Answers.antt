@@ -1,9 +1,5 @@
 use Rattle.std.proofs.Common.{◌≡◌, ◌∙◌, ◌++◌, List, [], ap, sym}
-use Rattle.std.specs.Str.Lines.{lines}
-use Rattle.serde_json.specs.Data.{string}
-use Rattle.example_index.specs.Notes.{notes_from}
-use Rattle.resolvo_ids.specs.Types.VersionSetId.{VersionSetId}
-use Rattle.example_json.specs.Values.{array_of}
+use Rattle.example_json.proofs.Words.{array_of, lines, notes_from, string, VersionSetId}
 use Rattle.example_json.proofs.ShownLemmas.{sets_by_place}
 use Rattle.example_json.proofs.answering.notes_value.Goals as goal
 

@@ -1,10 +1,6 @@
 use Rattle.std.proofs.Common.{◌∙◌, [], ap, refl, string_bytes}
-use Rattle.std.specs.Str.Lines.{lines}
 use Rattle.std.proofs.lemmas.Result.{IfOk-weaker}
-use Rattle.serde_json.specs.Data.{string}
-use Rattle.example_index.specs.Notes.{notes_from}
-use Rattle.example_json.specs.Answers.{empty_sets}
-use Rattle.serde_json.specs.Written.{has_float}
+use Rattle.example_json.proofs.Words.{empty_sets, has_float, lines, notes_from, string}
 use Rattle.example_json.proofs.PlainLemmas.{array_plain}
 use Rattle.example_json.proofs.ShownLemmas.{shows_index}
 use Rattle.example_json.proofs.answering.search_index.Goals as goal

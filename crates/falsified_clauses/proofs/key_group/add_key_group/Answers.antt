@@ -1,9 +1,5 @@
 use Rattle.std.proofs.Common.{[], ◌∷◌, map, sym, ap, ◌∙◌}
-use Rattle.decisions.specs.Decisions.{values_in}
-use Rattle.decisions.specs.Literals.{Lit, is_false_literal}
-use Rattle.clauses.specs.Stored.{lists_found}
-use Rattle.clause_counters.specs.GroupedClauses.{row_literals}
-use Rattle.falsified_clauses.specs.GroupKeys.{literals_of}
+use Rattle.falsified_clauses.proofs.Words.{is_false_literal, lists_found, Lit, literals_of, row_literals, values_in}
 use Rattle.falsified_clauses.proofs.CountLaws.{adds_same, disjunction_read}
 use Rattle.falsified_clauses.proofs.key_group.add_key_group.Goals as goal
 

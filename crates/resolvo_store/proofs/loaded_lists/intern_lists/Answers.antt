@@ -1,20 +1,17 @@
 use Rattle.std.proofs.Common.{◌≡◌, ◌<◌, ◌^◌, ◌+◌, ◌-◌, ◌∷◌, [], ◌++◌, ◌||◌, ◌∙◌, Bool, ℕ, List, sym, ap, subst, refl}
 use Rattle.std.proofs.Common.{take, drop, map, length, get_or, leb, ltb, true, false, arith, length-append}
-use Rattle.std.specs.Prelude.{flat_map}
-use Rattle.std.specs.List.{list_any}
 use Rattle.std.proofs.Math.Bool.{or-true}
 use Rattle.std.proofs.lemmas.Bool.Decides.{nat_tests}
 use Rattle.std.proofs.lemmas.Grind.{flat_map-append, common_steps}
 use Rattle.std.proofs.lemmas.List.{take_more, take_all, drop_more, append-nil, map-append}
 use Rattle.std.proofs.lemmas.List.Sums.{fold-append}
-use Rattle.typed_ids.specs.Refusals.{IsGrowthRefusal}
-use Rattle.variables.specs.Variables.{interned_variable, with_variable, with_variables, lacks_variables}
-use Rattle.variables.specs.Variables.{IsPartlyInterned}
+use Rattle.variables.specs.Variables.{with_variable}
 use Rattle.variables.proofs.InterningLemmas.{lists_in_turn, lists-more, lists-in-turn, lacks_for_list, split-at}
 use Rattle.variables.proofs.InterningLemmas.{partly_more, wholly, front_of_part, refusal_wider, handed_on}
 use Rattle.variables.proofs.InterningLemmas.{list_any-fails, none_large}
-use Rattle.solver_cache.specs.Cache.{listed}
 use Rattle.solver_cache.proofs.CacheLemmas.{on_err}
+use Rattle.resolvo_store.proofs.Words.{flat_map, interned_variable, IsGrowthRefusal, IsPartlyInterned, lacks_variables}
+use Rattle.resolvo_store.proofs.Words.{list_any, listed, with_variables}
 use Rattle.resolvo_store.proofs.loaded_lists.intern_lists.Given.{Over}
 use Rattle.resolvo_store.proofs.loaded_lists.intern_lists.Goals as goal
 

@@ -1,9 +1,6 @@
 use Rattle.std.proofs.Common.{◌≡◌, ◌<◌, ◌^◌, map, take, length, false}
-use Rattle.std.specs.Prelude.{flat_map}
-use Rattle.std.specs.List.{list_any}
-use Rattle.variables.specs.Variables.{with_variables}
 use Rattle.variables.proofs.InterningLemmas.{lists_in_turn}
-use Rattle.solver_cache.specs.Cache.{listed}
+use Rattle.resolvo_store.proofs.Words.{flat_map, list_any, listed, with_variables}
 use Rattle.resolvo_store.proofs.loaded_lists.intern_lists.Given as goal
 
 abbrev pub invariant-loop-id : goal.invariant-loop-id

@@ -1,15 +1,12 @@
 use Rattle.std.proofs.lemmas.Grind.{common_steps}
 use Rattle.std.proofs.Common.{◌≡◌, ◌<◌, ◌^◌, ◌||◌, map, length, refl, subst, leb, false, arith}
-use Rattle.std.specs.Prelude.{not, ◌&&◌, OnOk, IfOk, OnErr, IfErr}
-use Rattle.std.specs.List.{list_all, list_any}
-use Rattle.typed_ids.specs.Refusals.{IsGrowthRefusal}
-use Rattle.providers.specs.Provider.{sets_of}
-use Rattle.variables.specs.Variables.{interned_variable, with_variables, lacks_variables, IsPartlyInterned}
-use Rattle.solver_cache.specs.Cache.{is_set_queried}
+use Rattle.std.specs.Prelude.{not, ◌&&◌}
 use Rattle.solver_cache.specs.Functions.{Provider, gathered}
-use Rattle.solver_cache.specs.Questions.{lacks_candidates}
 use Rattle.solver_cache.proofs.CacheLemmas.{on_err}
 use Rattle.solver_cache.proofs.ListedLemmas.{listed_joined, listed_mapped}
+use Rattle.resolvo_store.proofs.Words.{IfErr, IfOk, interned_variable, is_set_queried, IsGrowthRefusal}
+use Rattle.resolvo_store.proofs.Words.{IsPartlyInterned, lacks_candidates, lacks_variables, list_all, list_any, OnErr}
+use Rattle.resolvo_store.proofs.Words.{OnOk, sets_of, with_variables}
 use Rattle.resolvo_store.proofs.LoadingLemmas.{if_refused, growth_refused}
 use Rattle.resolvo_store.proofs.loaded_lists.load_lists.Given.{Over}
 use Rattle.resolvo_store.proofs.loaded_lists.load_lists.Goals as goal
@@ -17,9 +14,8 @@ use Rattle.resolvo_store.proofs.loaded_lists.load_lists.Goals as goal
 -- the provider's functions
 abbrev provided : (g : Over) → g.row.D.Denot → Provider g.row.D-NameId.Denot g.row.D-SolvableId.Denot
 provided g = gathered g.D.NameId.PartialEq.eq g.D.SolvableId.PartialEq.eq g.D.NameId.Slots.IdMap.is_too_large
-    g.D.SolvableId.Slots.IdMap.is_too_large
-    g.D.SolvableId.Set.IdSet.is_too_large g.D.NameId.SolverId.are_many g.D.Interner.universe
-    g.D.DependencyProvider.answers
+    g.D.SolvableId.Slots.IdMap.is_too_large g.D.SolvableId.Set.IdSet.is_too_large g.D.NameId.SolverId.are_many
+    g.D.Interner.universe g.D.DependencyProvider.answers
 
 pub returns-in_err-ids-clause-err : goal.returns-in_err-ids-clause-err
 returns-in_err-ids-clause-err g c = on_err _ c.from_residual.result (0, refl)

@@ -1,7 +1,5 @@
 use Rattle.std.proofs.Common.{take}
-use Rattle.std.specs.Prelude.{flat_map, codes}
-use Rattle.std.specs.Fmt.{HasWritten, IsPlainFormatter}
-use Rattle.resolvo_store.specs.ReplyTexts.{field}
+use Rattle.resolvo_store.proofs.Words.{codes, field, flat_map, HasWritten, IsPlainFormatter}
 use Rattle.resolvo_store.proofs.reply_text.write_clauses.Given as goal
 
 abbrev pub invariant-loop-clause : goal.invariant-loop-clause

@@ -1,6 +1,5 @@
 use Rattle.std.proofs.Common.{take}
-use Rattle.std.specs.Fmt.{HasWritten, IsPlainFormatter}
-use Rattle.resolvo_store.specs.ReplyTexts.{others_text}
+use Rattle.resolvo_store.proofs.Words.{HasWritten, IsPlainFormatter, others_text}
 use Rattle.resolvo_store.proofs.reply_text.write_others.Given as goal
 
 abbrev pub invariant-loop-variable : goal.invariant-loop-variable

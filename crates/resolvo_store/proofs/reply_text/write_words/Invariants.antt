@@ -1,6 +1,5 @@
 use Rattle.std.proofs.Common.{take, map}
-use Rattle.std.specs.Fmt.{HasWritten, IsPlainFormatter}
-use Rattle.resolvo_store.specs.ReplyTexts.{lists_text}
+use Rattle.resolvo_store.proofs.Words.{HasWritten, IsPlainFormatter, lists_text}
 use Rattle.resolvo_store.proofs.reply_text.write_words.Given as goal
 
 abbrev pub invariant-loop-list : goal.invariant-loop-list

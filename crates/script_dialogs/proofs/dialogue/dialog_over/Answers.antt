@@ -12,9 +12,8 @@ returns-clause-answers g c =
     let ids = ids_at g.D.NameId.DenseIndex.limit g.D.NameId.DenseIndex.id_at g.D.SolvableId.DenseIndex.limit
     g.D.SolvableId.DenseIndex.id_at in
     let functions = gathered g.D.NameId.PartialEq.eq g.D.SolvableId.PartialEq.eq g.D.NameId.Slots.IdMap.is_too_large
-    g.D.SolvableId.Slots.IdMap.is_too_large
-    g.D.SolvableId.Set.IdSet.is_too_large g.D.NameId.SolverId.are_many g.D.Interner.universe
-    g.D.DependencyProvider.answers in
+    g.D.SolvableId.Slots.IdMap.is_too_large g.D.SolvableId.Set.IdSet.is_too_large g.D.NameId.SolverId.are_many
+    g.D.Interner.universe g.D.DependencyProvider.answers in
     let store = store_of functions g.D.NameId.Scores.IdMap.value_at in
     let provided = λ (p : Packages). functions (g.D.OverPackages.made_of p) in
     answers_as (OneByOne ids provided (λ a. a.stage) store c.new-lines.result 0) (ScriptLinesAnswered ids provided)
@@ -28,9 +27,8 @@ returns-clause-calls g c =
     let ids = ids_at g.D.NameId.DenseIndex.limit g.D.NameId.DenseIndex.id_at g.D.SolvableId.DenseIndex.limit
     g.D.SolvableId.DenseIndex.id_at in
     let functions = gathered g.D.NameId.PartialEq.eq g.D.SolvableId.PartialEq.eq g.D.NameId.Slots.IdMap.is_too_large
-    g.D.SolvableId.Slots.IdMap.is_too_large
-    g.D.SolvableId.Set.IdSet.is_too_large g.D.NameId.SolverId.are_many g.D.Interner.universe
-    g.D.DependencyProvider.answers in
+    g.D.SolvableId.Slots.IdMap.is_too_large g.D.SolvableId.Set.IdSet.is_too_large g.D.NameId.SolverId.are_many
+    g.D.Interner.universe g.D.DependencyProvider.answers in
     let store = store_of functions g.D.NameId.Scores.IdMap.value_at in
     let provided = λ (p : Packages). functions (g.D.OverPackages.made_of p) in
     ends_also g.P.Source.reads g.P.Source.fails g.P.Sink.writes g.P.Sink.fails _ _

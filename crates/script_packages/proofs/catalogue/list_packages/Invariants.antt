@@ -1,8 +1,7 @@
 use Rattle.std.proofs.Common.{◌+◌, ◌≤◌, length, ℕ, List}
-use Rattle.script_packages.specs.declared.packages.Packages.{Packages}
-use Rattle.script_packages.specs.CatalogueEnds.{NeverBegins, CommandsBegin, FaultyAt, NeedMemory}
-use Rattle.script_packages.specs.Listing.{listing_of, nothing_listed}
 use Rattle.script_text.specs.Lines.{lines as lines_of}
+use Rattle.script_packages.proofs.Words.{CommandsBegin, FaultyAt, listing_of, NeedMemory, NeverBegins, nothing_listed}
+use Rattle.script_packages.proofs.Words.{Packages}
 use Rattle.script_packages.proofs.catalogue.list_packages.Given as goal
 
 -- how what is left of the lines ends after what is listed, so all of them do

@@ -1,5 +1,5 @@
 use Rattle.std.proofs.Common.{◌≡◌, drop}
-use Rattle.script_packages.specs.Order.{rises_from}
+use Rattle.script_packages.proofs.Words.{rises_from}
 use Rattle.script_packages.proofs.order.rises_from.Given as goal
 
 abbrev pub invariant-loop-solvable : goal.invariant-loop-solvable

@@ -1,6 +1,6 @@
 use Rattle.std.proofs.Common.{◌≡◌, true, subst, sym, rules}
 use Rattle.std.specs.Prelude.{IsSorted}
-use Rattle.script_packages.specs.Order.{preference, rises}
+use Rattle.script_packages.proofs.Words.{preference, rises}
 use Rattle.script_packages.proofs.Preferences.{sorted_is-best_first}
 use Rattle.script_packages.proofs.Rising.{turned_is_sorted}
 use Rattle.script_packages.proofs.order.sort_best_first.Goals as goal

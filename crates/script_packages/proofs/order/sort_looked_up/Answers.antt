@@ -1,7 +1,7 @@
 use Rattle.std.proofs.Common.{◌≡◌, ◌++◌, ◌∙◌, ap, drop, length, map, subst, sym, take, IsPermutation, IsSorted}
 use Rattle.std.proofs.Math.Seq.{take-append_seam}
 use Rattle.std.proofs.lemmas.List.Sorted.{length_permutation}
-use Rattle.script_packages.specs.Order.{best_first, preference}
+use Rattle.script_packages.proofs.Words.{best_first, preference}
 use Rattle.script_packages.proofs.Versioned.{sorted_with_versions}
 use Rattle.script_packages.proofs.order.sort_looked_up.Goals as goal
 

@@ -1,5 +1,5 @@
 use Rattle.std.proofs.Common.{◌≡◌, subst, sym, IsPermutation, IsSorted}
-use Rattle.script_packages.specs.Order.{best_first, preference}
+use Rattle.script_packages.proofs.Words.{best_first, preference}
 use Rattle.script_packages.proofs.Versioned.{sorted_with_versions}
 use Rattle.script_packages.proofs.order.sort_short.Goals as goal
 

@@ -1,5 +1,5 @@
 use Rattle.std.proofs.Common.{◌≡◌, ◌<◌, ◌∷◌, [], ◌++◌, ◌+◌, ◌-◌, ◌∙◌, sym, ap, subst, append_assoc, arith}
-use Rattle.script_packages.specs.Packages.{numbers}
+use Rattle.script_packages.proofs.Words.{numbers}
 use Rattle.script_packages.proofs.Numbering.{numbers_more}
 use Rattle.script_packages.proofs.provider.numbers.Goals as goal
 

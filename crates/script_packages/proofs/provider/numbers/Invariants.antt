@@ -1,5 +1,5 @@
 use Rattle.std.proofs.Common.{◌≡◌, ◌≤◌, ◌++◌, ◌-◌, ◌+◌, vec_len, vec_capacity}
-use Rattle.script_packages.specs.Packages.{numbers}
+use Rattle.script_packages.proofs.Words.{numbers}
 use Rattle.script_packages.proofs.provider.numbers.Given as goal
 
 abbrev pub invariant-loop-i : goal.invariant-loop-i

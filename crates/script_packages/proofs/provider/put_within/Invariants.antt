@@ -1,5 +1,5 @@
 use Rattle.std.proofs.Common.{◌≡◌, ◌≤◌, ◌++◌, drop, take}
-use Rattle.providers.specs.Provider.{filtered}
+use Rattle.script_packages.proofs.Words.{filtered}
 use Rattle.script_packages.proofs.Ranges.{holds}
 use Rattle.script_packages.proofs.provider.put_within.Given as goal
 

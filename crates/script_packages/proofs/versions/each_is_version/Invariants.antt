@@ -1,6 +1,5 @@
 use Rattle.std.proofs.Common.{◌≡◌, length}
-use Rattle.script_text.specs.Words.{words}
-use Rattle.script_packages.specs.Versions.{each_is_version}
+use Rattle.script_packages.proofs.Words.{each_is_version, words}
 use Rattle.script_packages.proofs.versions.each_is_version.Given as goal
 
 abbrev pub invariant-loop-word : goal.invariant-loop-word

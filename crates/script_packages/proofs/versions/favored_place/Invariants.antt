@@ -1,7 +1,5 @@
 use Rattle.std.proofs.Common.{◌≡◌, ◌+◌, ◌≤◌, length, filter, List, ℕ, Option, None, Some}
-use Rattle.std.specs.List.{position_from}
-use Rattle.script_text.specs.Words.{words}
-use Rattle.script_packages.specs.Versions.{is_starred}
+use Rattle.script_packages.proofs.Words.{is_starred, position_from, words}
 use Rattle.script_packages.proofs.versions.favored_place.Given as goal
 
 -- what is told of all words by those that are left, the first of which has this place

@@ -1,5 +1,5 @@
 use Rattle.std.proofs.Common.{◌≡◌, ◌∙◌, ◌^◌, Some, ap, sym, rules}
-use Rattle.script_text.specs.Numbers.{number_of, below}
+use Rattle.script_packages.proofs.Words.{below, number_of}
 use Rattle.script_packages.proofs.Stars.{version_of_number}
 use Rattle.script_packages.proofs.versions.version_of.Goals as goal
 

@@ -1,20 +1,13 @@
 use Rattle.std.proofs.Common.{◌∙◌, Some, ap, sym}
-use Rattle.resolvo_pool.specs.Functions.{Provider, gathered}
-use Rattle.resolvo_pool.specs.Provider.{candidates_of, excluded_of, locked_of}
+use Rattle.solutions.proofs.Words.{candidates_of, excluded_of, gathered, locked_of}
 use Rattle.solutions.proofs.AllowedLemmas.{flipped, found_allows}
-use Rattle.solutions.proofs.allowed.is_allowed.Given.{Over}
 use Rattle.solutions.proofs.allowed.is_allowed.Goals as goal
-
--- the provider's functions
-abbrev provided : (g : Over) → g.row.D.Denot → Provider g.row.D-NameId.Denot g.row.D-SolvableId.Denot
-provided g = gathered g.D.NameId.PartialEq.eq g.D.SolvableId.PartialEq.eq g.D.NameId.Slots.IdMap.is_too_large
-    g.D.SolvableId.Slots.IdMap.is_too_large
-    g.D.SolvableId.Set.IdSet.is_too_large g.D.NameId.SolverId.are_many g.D.Interner.universe
-    g.D.DependencyProvider.answers
 
 pub returns-in-Some-clause-ok : goal.returns-in-Some-clause-ok
 returns-in-Some-clause-ok g c =
-    let p = provided g c.args.provider.now in
+    let p = gathered g.D.NameId.PartialEq.eq g.D.SolvableId.PartialEq.eq g.D.NameId.Slots.IdMap.is_too_large
+    g.D.SolvableId.Slots.IdMap.is_too_large g.D.SolvableId.Set.IdSet.is_too_large g.D.NameId.SolverId.are_many
+    g.D.Interner.universe g.D.DependencyProvider.answers c.args.provider.now in
     let found = c.in-Some.found in
     c.allows.ensures
     ∙ flipped p c.args.solvable g.met.D.SolvableId.Eq.laws.symm found.candidates.items found.excluded.items found.locked

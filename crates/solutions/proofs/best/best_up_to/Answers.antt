@@ -1,7 +1,6 @@
 use Rattle.std.proofs.Common.{◌≡◌, ◌∙◌, ◌≤◌, length, rules, arith}
 use Rattle.std.proofs.lemmas.List.{length-map}
-use Rattle.resolvo_pool.specs.Functions.{Provider, gathered}
-use Rattle.solutions.specs.Wishes.{alternatives_of}
+use Rattle.solutions.proofs.Words.{alternatives_of, gathered, Provider}
 use Rattle.solutions.proofs.BestLemmas.{best_granted, best_shown, granted_within}
 use Rattle.solutions.proofs.best.best_up_to.Given.{Over}
 use Rattle.solutions.proofs.best.best_up_to.Goals as goal
@@ -9,9 +8,8 @@ use Rattle.solutions.proofs.best.best_up_to.Goals as goal
 -- the provider's functions
 abbrev provided : (g : Over) → g.row.D.Denot → Provider g.row.D-NameId.Denot g.row.D-SolvableId.Denot
 provided g = gathered g.D.NameId.PartialEq.eq g.D.SolvableId.PartialEq.eq g.D.NameId.Slots.IdMap.is_too_large
-    g.D.SolvableId.Slots.IdMap.is_too_large
-    g.D.SolvableId.Set.IdSet.is_too_large g.D.NameId.SolverId.are_many g.D.Interner.universe
-    g.D.DependencyProvider.answers
+    g.D.SolvableId.Slots.IdMap.is_too_large g.D.SolvableId.Set.IdSet.is_too_large g.D.NameId.SolverId.are_many
+    g.D.Interner.universe g.D.DependencyProvider.answers
 
 pub returns-then-is_empty-clause-best : goal.returns-then-is_empty-clause-best
 returns-then-is_empty-clause-best g c =

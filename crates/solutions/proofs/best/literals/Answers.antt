@@ -1,17 +1,9 @@
 use Rattle.std.proofs.Common.{◌≡◌, ◌∙◌, ◌++◌, ◌∷◌, [], ap, rules, map}
 use Rattle.std.proofs.lemmas.List.{take_all}
-use Rattle.resolvo_pool.specs.Functions.{Provider, gathered}
-use Rattle.solutions.specs.Wishes.{is_so}
+use Rattle.solutions.proofs.Words.{is_so}
 use Rattle.solutions.proofs.BestLemmas.{literal_is_so, literals_more}
-use Rattle.solutions.proofs.best.literals.Given.{Over}
+use Rattle.solutions.proofs.best.literals.Invariants.{provided}
 use Rattle.solutions.proofs.best.literals.Goals as goal
-
--- the provider's functions
-abbrev provided : (g : Over) → g.row.D.Denot → Provider g.row.D-NameId.Denot g.row.D-SolvableId.Denot
-provided g = gathered g.D.NameId.PartialEq.eq g.D.SolvableId.PartialEq.eq g.D.NameId.Slots.IdMap.is_too_large
-    g.D.SolvableId.Slots.IdMap.is_too_large
-    g.D.SolvableId.Set.IdSet.is_too_large g.D.NameId.SolverId.are_many g.D.Interner.universe
-    g.D.DependencyProvider.answers
 
 pub loop-alternative-preserved : goal.loop-alternative-preserved
 loop-alternative-preserved g c = λ other.

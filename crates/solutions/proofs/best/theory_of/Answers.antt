@@ -1,23 +1,14 @@
-use Rattle.std.specs.List.{All}
 use Rattle.std.proofs.Common.{◌≡◌, [], true}
-use Rattle.solutions.specs.Reasons.{IsMet}
-use Rattle.solutions.specs.Solutions.{IsSolution, is_allowed}
-use Rattle.solutions.proofs.EncodingLemmas as L
+use Rattle.solutions.proofs.Words.{All, gathered, is_allowed, IsMet, IsSolution}
 use Rattle.solutions.proofs.ReasonLaws.{meets_all}
-use Rattle.resolvo_pool.specs.Functions.{Provider, gathered}
-use Rattle.solutions.proofs.best.theory_of.Given.{Over}
+use Rattle.solutions.proofs.EncodingLemmas as L
 use Rattle.solutions.proofs.best.theory_of.Goals as goal
-
--- the provider's functions
-abbrev provided : (g : Over) → g.row.D.Denot → Provider g.row.D-NameId.Denot g.row.D-SolvableId.Denot
-provided g = gathered g.D.NameId.PartialEq.eq g.D.SolvableId.PartialEq.eq g.D.NameId.Slots.IdMap.is_too_large
-    g.D.SolvableId.Slots.IdMap.is_too_large
-    g.D.SolvableId.Set.IdSet.is_too_large g.D.NameId.SolverId.are_many g.D.Interner.universe
-    g.D.DependencyProvider.answers
 
 pub returns : goal.returns
 returns g c =
-    let p = provided g c.args.encoder.now.provider.now in
+    let p = gathered g.D.NameId.PartialEq.eq g.D.SolvableId.PartialEq.eq g.D.NameId.Slots.IdMap.is_too_large
+    g.D.SolvableId.Slots.IdMap.is_too_large g.D.SolvableId.Set.IdSet.is_too_large g.D.NameId.SolverId.are_many
+    g.D.Interner.universe g.D.DependencyProvider.answers c.args.encoder.now.provider.now in
     let requested = c.args.requested.now in
     let reasons = c.args.evidence.now.reasons.now in
     let first = c.in_ok-theory.theory.clauses.items in

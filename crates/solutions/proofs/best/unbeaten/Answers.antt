@@ -1,24 +1,14 @@
 use Rattle.std.proofs.Common.{ap, subst, sym, [], length, map}
-use Rattle.resolvo_pool.specs.Functions.{Provider, gathered}
-use Rattle.solutions.specs.Clauses.{Replayed}
-use Rattle.solutions.specs.Settled.{AreSameUpTo, first_trues}
-use Rattle.solutions.specs.Truth.{truth}
-use Rattle.solutions.specs.Wishes.{alternatives_of, rank}
+use Rattle.solutions.proofs.Words.{alternatives_of, AreSameUpTo, first_trues, gathered, rank, Replayed, truth}
 use Rattle.solutions.proofs.BestLemmas.{unbeaten_solutions}
 use Rattle.solutions.proofs.DecisionLemmas.{answered}
-use Rattle.solutions.proofs.best.unbeaten.Given.{Over}
 use Rattle.solutions.proofs.best.unbeaten.Goals as goal
-
--- the provider's functions
-abbrev provided : (g : Over) → g.row.D.Denot → Provider g.row.D-NameId.Denot g.row.D-SolvableId.Denot
-provided g = gathered g.D.NameId.PartialEq.eq g.D.SolvableId.PartialEq.eq g.D.NameId.Slots.IdMap.is_too_large
-    g.D.SolvableId.Slots.IdMap.is_too_large
-    g.D.SolvableId.Set.IdSet.is_too_large g.D.NameId.SolverId.are_many g.D.Interner.universe
-    g.D.DependencyProvider.answers
 
 pub returns : goal.returns
 returns g c =
-    let p = provided g c.args.provider.now in
+    let p = gathered g.D.NameId.PartialEq.eq g.D.SolvableId.PartialEq.eq g.D.NameId.Slots.IdMap.is_too_large
+    g.D.SolvableId.Slots.IdMap.is_too_large g.D.SolvableId.Set.IdSet.is_too_large g.D.NameId.SolverId.are_many
+    g.D.Interner.universe g.D.DependencyProvider.answers c.args.provider.now in
     let ranks = c.args.ranks.now in
     let wishes = alternatives_of c.args.request.now.wishes.now in
     let clauses = c.in_ok-theory.theory.clauses.items in

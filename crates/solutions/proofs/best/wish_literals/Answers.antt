@@ -1,19 +1,10 @@
 use Rattle.std.proofs.Common.{◌≡◌, ◌∙◌, ◌+◌, ◌<◌, ◌++◌, ◌∷◌, [], length, ltb-true, map, take, ap, slice_index, sym}
 use Rattle.std.proofs.Common.{rules, arith}
 use Rattle.std.proofs.lemmas.List.{length-append}
-use Rattle.resolvo_pool.specs.Functions.{Provider, gathered}
-use Rattle.solutions.specs.Truth.{truth}
-use Rattle.solutions.specs.Wishes.{alternatives_of, is_so, rank}
+use Rattle.solutions.proofs.Words.{alternatives_of, is_so, rank, truth}
 use Rattle.solutions.proofs.BestLemmas.{rank_at, ranks_length, same_more, same_past}
-use Rattle.solutions.proofs.best.wish_literals.Given.{Over}
+use Rattle.solutions.proofs.best.wish_literals.Invariants.{provided}
 use Rattle.solutions.proofs.best.wish_literals.Goals as goal
-
--- the provider's functions
-abbrev provided : (g : Over) → g.row.D.Denot → Provider g.row.D-NameId.Denot g.row.D-SolvableId.Denot
-provided g = gathered g.D.NameId.PartialEq.eq g.D.SolvableId.PartialEq.eq g.D.NameId.Slots.IdMap.is_too_large
-    g.D.SolvableId.Slots.IdMap.is_too_large
-    g.D.SolvableId.Set.IdSet.is_too_large g.D.NameId.SolverId.are_many g.D.Interner.universe
-    g.D.DependencyProvider.answers
 
 pub loop-place-init : goal.loop-place-init
 loop-place-init g c = record { count = search rules; same = λ other place less. absurd (omega arith) }

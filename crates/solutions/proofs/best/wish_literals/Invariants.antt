@@ -1,17 +1,16 @@
 use Rattle.std.proofs.Common.{◌≡◌, List, length, map}
-use Rattle.resolvo_pool.specs.Functions.{gathered}
-use Rattle.solutions.specs.Settled.{AreSameUpTo, first_trues}
-use Rattle.solutions.specs.Truth.{truth}
-use Rattle.solutions.specs.Wishes.{alternatives_of, rank}
+use Rattle.solutions.proofs.Words.{alternatives_of, AreSameUpTo, first_trues, gathered, Provider, rank, truth}
 use Rattle.solutions.proofs.best.wish_literals.Given as goal
+
+-- the provider's functions
+abbrev pub provided : (g : goal.Over) → g.row.D.Denot → Provider g.row.D-NameId.Denot g.row.D-SolvableId.Denot
+provided g = gathered g.D.NameId.PartialEq.eq g.D.SolvableId.PartialEq.eq g.D.NameId.Slots.IdMap.is_too_large
+    g.D.SolvableId.Slots.IdMap.is_too_large g.D.SolvableId.Set.IdSet.is_too_large g.D.NameId.SolverId.are_many
+    g.D.Interner.universe g.D.DependencyProvider.answers
 
 abbrev pub invariant-loop-place : goal.invariant-loop-place
 invariant-loop-place g l =
-    let D = g.D in
-    let p = gathered D.NameId.PartialEq.eq D.SolvableId.PartialEq.eq D.NameId.Slots.IdMap.is_too_large
-    D.SolvableId.Slots.IdMap.is_too_large
-    D.SolvableId.Set.IdSet.is_too_large D.NameId.SolverId.are_many D.Interner.universe D.DependencyProvider.answers
-    l.encoder.provider.now in
+    let p = provided g l.encoder.provider.now in
     record {
       count : length l.lists.items ≡ l.place;
       same : (other : List g.row.D-SolvableId.Denot) →

@@ -1,6 +1,6 @@
 use Rattle.std.proofs.Common.{◌≡◌, ◌∙◌, ◌+◌, ◌++◌, ◌∷◌, [], sym, ap, subst, take}
 use Rattle.std.proofs.lemmas.List.{take_more, take_all}
-use Rattle.solutions.specs.Clauses.{IsStateOf}
+use Rattle.solutions.proofs.Words.{IsStateOf}
 use Rattle.solutions.proofs.clause_state.state_of.Goals as goal
 
 pub loop-literal-preserved : goal.loop-literal-preserved

@@ -1,5 +1,5 @@
 use Rattle.std.proofs.Common.{take}
-use Rattle.solutions.specs.Clauses.{IsStateOf}
+use Rattle.solutions.proofs.Words.{IsStateOf}
 use Rattle.solutions.proofs.clause_state.state_of.Given as goal
 
 abbrev pub invariant-loop-literal : goal.invariant-loop-literal

@@ -1,5 +1,5 @@
 use Rattle.std.proofs.Common.{◌≡◌, true, false, rules}
-use Rattle.solutions.specs.Clauses.{AreTrue, is_true}
+use Rattle.solutions.proofs.Words.{AreTrue, is_true}
 use Rattle.solutions.proofs.FollowsLemmas.{follows_none, follows_step, true_at}
 use Rattle.solutions.proofs.clauses.assume.Goals as goal
 

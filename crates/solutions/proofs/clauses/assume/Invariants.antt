@@ -1,5 +1,5 @@
 use Rattle.std.proofs.Common.{false}
-use Rattle.solutions.specs.Clauses.{AreTrue, Follows}
+use Rattle.solutions.proofs.Words.{AreTrue, Follows}
 use Rattle.solutions.proofs.clauses.assume.Given as goal
 
 abbrev pub invariant-loop-literal : goal.invariant-loop-literal

@@ -1,18 +1,9 @@
 use Rattle.std.proofs.Common.{◌≡◌, true, subst, rules}
-use Rattle.std.specs.List.{All}
 use Rattle.std.proofs.lemmas.List.{take_all}
-use Rattle.solutions.specs.Reasons.{IsMet}
+use Rattle.solutions.proofs.Words.{All, IsMet}
 use Rattle.solutions.proofs.DecisionLemmas.{next_holds}
-use Rattle.resolvo_pool.specs.Functions.{Provider, gathered}
-use Rattle.solutions.proofs.meeting.are_met.Given.{Over}
+use Rattle.solutions.proofs.meeting.are_met.Invariants.{provided}
 use Rattle.solutions.proofs.meeting.are_met.Goals as goal
-
--- the provider's functions
-abbrev provided : (g : Over) → g.row.D.Denot → Provider g.row.D-NameId.Denot g.row.D-SolvableId.Denot
-provided g = gathered g.D.NameId.PartialEq.eq g.D.SolvableId.PartialEq.eq g.D.NameId.Slots.IdMap.is_too_large
-    g.D.SolvableId.Slots.IdMap.is_too_large
-    g.D.SolvableId.Set.IdSet.is_too_large g.D.NameId.SolverId.are_many g.D.Interner.universe
-    g.D.DependencyProvider.answers
 
 pub loop-reason-preserved : goal.loop-reason-preserved
 loop-reason-preserved g c =

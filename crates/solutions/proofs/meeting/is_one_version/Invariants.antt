@@ -1,13 +1,14 @@
 use Rattle.std.proofs.Common.{◌≡◌, take}
-use Rattle.std.specs.List.{All}
-use Rattle.resolvo_pool.specs.Functions.{gathered}
+use Rattle.solutions.proofs.Words.{All, gathered, Provider}
 use Rattle.solutions.proofs.meeting.is_one_version.Given as goal
+
+-- the provider's functions
+abbrev pub provided : (g : goal.Over) → g.row.D.Denot → Provider g.row.D-NameId.Denot g.row.D-SolvableId.Denot
+provided g = gathered g.D.NameId.PartialEq.eq g.D.SolvableId.PartialEq.eq g.D.NameId.Slots.IdMap.is_too_large
+    g.D.SolvableId.Slots.IdMap.is_too_large g.D.SolvableId.Set.IdSet.is_too_large g.D.NameId.SolverId.are_many
+    g.D.Interner.universe g.D.DependencyProvider.answers
 
 abbrev pub invariant-loop-solvable : goal.invariant-loop-solvable
 invariant-loop-solvable g l =
-    let D = g.D in
-    let p = gathered D.NameId.PartialEq.eq D.SolvableId.PartialEq.eq D.NameId.Slots.IdMap.is_too_large
-    D.SolvableId.Slots.IdMap.is_too_large
-    D.SolvableId.Set.IdSet.is_too_large D.NameId.SolverId.are_many D.Interner.universe D.DependencyProvider.answers
-    l.provider in
+    let p = provided g l.provider in
     All (λ s. p.universe.solvable_name s ≡ l.name → ⊥) (take l.solvable-index l.solvables)

@@ -1,26 +1,14 @@
 use Rattle.std.proofs.Common.{◌≡◌, ◌∙◌, ◌<◌, true, length, ltb-true, refl, rules, ap, subst, sym, take, arith}
 use Rattle.std.specs.Prelude.{Some, slice_get}
 use Rattle.std.proofs.Math.Path.{fun_ext}
-use Rattle.std.specs.List.{All}
 use Rattle.std.proofs.lemmas.List.{take_all}
 use Rattle.std.proofs.lemmas.List.Elements.{All-nil}
 use Rattle.std.proofs.lemmas.Option.{slice_get-get_or, slice_get_read}
-use Rattle.resolvo_pool.specs.Functions.{Provider, gathered}
-use Rattle.solutions.specs.Needed.{IsCausedBy, IsNeeded}
-use Rattle.solutions.specs.Selections.{is_kept}
-use Rattle.solutions.specs.Solutions.{is_among}
-use Rattle.solutions.specs.Wishes.{alternatives_of}
+use Rattle.solutions.proofs.Words.{All, alternatives_of, is_among, is_kept, IsCausedBy, IsNeeded}
 use Rattle.solutions.proofs.DecisionLemmas.{next_holds}
 use Rattle.solutions.proofs.NeededLemmas.{caused_all, caused_next, needed_by}
-use Rattle.solutions.proofs.needed.are_needed.Given.{Over}
+use Rattle.solutions.proofs.needed.are_needed.Invariants.{provided}
 use Rattle.solutions.proofs.needed.are_needed.Goals as goal
-
--- the provider's functions
-abbrev provided : (g : Over) → g.row.D.Denot → Provider g.row.D-NameId.Denot g.row.D-SolvableId.Denot
-provided g = gathered g.D.NameId.PartialEq.eq g.D.SolvableId.PartialEq.eq g.D.NameId.Slots.IdMap.is_too_large
-    g.D.SolvableId.Slots.IdMap.is_too_large
-    g.D.SolvableId.Set.IdSet.is_too_large g.D.NameId.SolverId.are_many g.D.Interner.universe
-    g.D.DependencyProvider.answers
 
 pub loop-place-init : goal.loop-place-init
 loop-place-init g c = record {

@@ -1,9 +1,6 @@
 use Rattle.std.proofs.Common.{◌≡◌, rules, subst, sym}
-use Rattle.resolvo_pool.specs.Functions.{Provider, gathered}
-use Rattle.solutions.specs.Needed.{IsCausedBy}
-use Rattle.solutions.specs.Selections.{is_kept}
-use Rattle.solutions.specs.Wishes.{alternatives_of}
-use Rattle.solutions.specs.declared.needed.Cause.TheVariants.{Requested, Required, Wished}
+use Rattle.solutions.proofs.Words.{alternatives_of, gathered, is_kept, IsCausedBy, Provider, Requested, Required}
+use Rattle.solutions.proofs.Words.{Wished}
 use Rattle.solutions.proofs.DecisionLemmas.{answered}
 use Rattle.solutions.proofs.needed.is_caused_by.Given.{Over}
 use Rattle.solutions.proofs.needed.is_caused_by.Goals as goal
@@ -11,9 +8,8 @@ use Rattle.solutions.proofs.needed.is_caused_by.Goals as goal
 -- the provider's functions
 abbrev provided : (g : Over) → g.row.D.Denot → Provider g.row.D-NameId.Denot g.row.D-SolvableId.Denot
 provided g = gathered g.D.NameId.PartialEq.eq g.D.SolvableId.PartialEq.eq g.D.NameId.Slots.IdMap.is_too_large
-    g.D.SolvableId.Slots.IdMap.is_too_large
-    g.D.SolvableId.Set.IdSet.is_too_large g.D.NameId.SolverId.are_many g.D.Interner.universe
-    g.D.DependencyProvider.answers
+    g.D.SolvableId.Slots.IdMap.is_too_large g.D.SolvableId.Set.IdSet.is_too_large g.D.NameId.SolverId.are_many
+    g.D.Interner.universe g.D.DependencyProvider.answers
 
 pub returns-in-Requested : goal.returns-in-Requested
 returns-in-Requested g c =

@@ -1,7 +1,6 @@
 use Rattle.std.proofs.Common.{◌≡◌, ◌∙◌, ◌<◌, ◌&&◌, Bool, true, ap, length, ltb-true, refl, sym}
-use Rattle.std.specs.List.{list_any}
 use Rattle.std.proofs.lemmas.Option.{slice_get_read}
-use Rattle.solutions.specs.declared.wish.Alternative.{Alternative}
+use Rattle.solutions.proofs.Words.{Alternative, list_any}
 use Rattle.solutions.proofs.NeededLemmas.{has_picked, wished_at}
 use Rattle.solutions.proofs.needed.is_wished_at.Goals as goal
 

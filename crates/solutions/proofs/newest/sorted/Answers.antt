@@ -1,5 +1,5 @@
 use Rattle.std.proofs.Common.{◌≡◌, ◌∙◌, [], ap, sym, rules}
-use Rattle.resolvo_pool.specs.Provider.{candidates_of, favored_of}
+use Rattle.solutions.proofs.Words.{candidates_of, favored_of}
 use Rattle.solutions.proofs.DecisionLemmas.{answered}
 use Rattle.solutions.proofs.NewestLemmas.{none_sorted, sorted_alike}
 use Rattle.solutions.proofs.newest.sorted.Goals as goal

@@ -1,5 +1,5 @@
 use Rattle.std.proofs.Common.{◌∙◌, false, ap}
-use Rattle.resolvo_pool.specs.Provider.{favored_first, filtered}
+use Rattle.solutions.proofs.Words.{favored_first, filtered}
 use Rattle.solutions.proofs.newest.sorted_among.Goals as goal
 
 pub returns : goal.returns

@@ -1,18 +1,9 @@
 use Rattle.std.proofs.Common.{◌≡◌, true, false, rules}
-use Rattle.resolvo_pool.specs.Functions.{Provider, gathered}
-use Rattle.solutions.specs.Needed.{Offers}
-use Rattle.solutions.specs.Selections.{is_kept}
+use Rattle.solutions.proofs.Words.{is_kept, Offers}
 use Rattle.solutions.proofs.DecisionLemmas.{next_holds, refuted}
 use Rattle.solutions.proofs.NeededLemmas.{next_passes, none_passes}
-use Rattle.solutions.proofs.offers.is_offered_by.Given.{Over}
+use Rattle.solutions.proofs.offers.is_offered_by.Invariants.{provided}
 use Rattle.solutions.proofs.offers.is_offered_by.Goals as goal
-
--- the provider's functions
-abbrev provided : (g : Over) → g.row.D.Denot → Provider g.row.D-NameId.Denot g.row.D-SolvableId.Denot
-provided g = gathered g.D.NameId.PartialEq.eq g.D.SolvableId.PartialEq.eq g.D.NameId.Slots.IdMap.is_too_large
-    g.D.SolvableId.Slots.IdMap.is_too_large
-    g.D.SolvableId.Set.IdSet.is_too_large g.D.NameId.SolverId.are_many g.D.Interner.universe
-    g.D.DependencyProvider.answers
 
 pub loop-requirement-preserved : goal.loop-requirement-preserved
 loop-requirement-preserved g c =

@@ -1,5 +1,5 @@
 use Rattle.std.proofs.Common.{◌≡◌, ◌∙◌, ap, sym}
-use Rattle.resolvo_pool.specs.Provider.{candidates_of, filtered}
+use Rattle.solutions.proofs.Words.{candidates_of, filtered}
 use Rattle.solutions.proofs.DecisionLemmas.{answered}
 use Rattle.solutions.proofs.queries.candidates.Goals as goal
 

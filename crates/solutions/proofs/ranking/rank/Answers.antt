@@ -1,8 +1,7 @@
 use Rattle.std.proofs.Common.{◌≡◌, ◌∙◌, ◌||◌, true, false, get_or, ap, sym, rules}
-use Rattle.std.specs.List.{list_any}
 use Rattle.std.proofs.lemmas.List.{take_all}
 use Rattle.std.proofs.lemmas.List.Folds.{list_any_more}
-use Rattle.solutions.specs.Selections.{is_kept, is_so_by}
+use Rattle.solutions.proofs.Words.{is_kept, is_so_by, list_any}
 use Rattle.solutions.proofs.RankLemmas.{before_first, before_none}
 use Rattle.solutions.proofs.ranking.rank.Goals as goal
 

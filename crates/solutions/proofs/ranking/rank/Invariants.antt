@@ -1,6 +1,5 @@
 use Rattle.std.proofs.Common.{◌≡◌, false, take}
-use Rattle.std.specs.List.{list_any}
-use Rattle.solutions.specs.Selections.{is_kept, is_so_by}
+use Rattle.solutions.proofs.Words.{is_kept, is_so_by, list_any}
 use Rattle.solutions.proofs.ranking.rank.Given as goal
 
 abbrev pub invariant-loop-place : goal.invariant-loop-place

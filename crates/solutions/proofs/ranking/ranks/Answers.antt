@@ -1,7 +1,6 @@
 use Rattle.std.proofs.Common.{◌∙◌, map, ap}
 use Rattle.std.proofs.Math.Path.{fun_ext}
-use Rattle.solutions.specs.Selections.{rank_by}
-use Rattle.solutions.specs.Wishes.{alternatives_of}
+use Rattle.solutions.proofs.Words.{alternatives_of, rank_by}
 use Rattle.solutions.proofs.DecisionLemmas.{answered}
 use Rattle.solutions.proofs.ranking.ranks.Goals as goal
 

@@ -1,7 +1,6 @@
 use Rattle.std.proofs.Common.{◌≡◌, ◌∙◌, ◌++◌, ◌∷◌, [], map, ap, rules}
 use Rattle.std.proofs.lemmas.List.{take_all}
-use Rattle.solutions.specs.Selections.{is_kept, rank_by}
-use Rattle.solutions.specs.Wishes.{alternatives_of}
+use Rattle.solutions.proofs.Words.{alternatives_of, is_kept, rank_by}
 use Rattle.solutions.proofs.RankLemmas.{ranks_more}
 use Rattle.solutions.proofs.ranking.ranks_by.Goals as goal
 

@@ -1,6 +1,5 @@
 use Rattle.std.proofs.Common.{◌≡◌, map, take}
-use Rattle.solutions.specs.Selections.{is_kept, rank_by}
-use Rattle.solutions.specs.Wishes.{alternatives_of}
+use Rattle.solutions.proofs.Words.{alternatives_of, is_kept, rank_by}
 use Rattle.solutions.proofs.ranking.ranks_by.Given as goal
 
 abbrev pub invariant-loop-wish : goal.invariant-loop-wish

@@ -1,20 +1,10 @@
 use Rattle.std.proofs.Common.{◌≡◌, [], get_or, true, subst, rules}
-use Rattle.std.specs.List.{All}
 use Rattle.std.proofs.lemmas.List.{take_all}
-use Rattle.resolvo_ids.specs.Types.VersionSetId.{VersionSetId}
-use Rattle.resolvo_pool.specs.Provider.{matching}
+use Rattle.solutions.proofs.Words.{All, matching, VersionSetId}
 use Rattle.solutions.proofs.DecisionLemmas.{next_holds}
 use Rattle.solutions.proofs.EncodingLemmas.{own_default}
-use Rattle.resolvo_pool.specs.Functions.{Provider, gathered}
-use Rattle.solutions.proofs.reasons.are_empty.Given.{Over}
+use Rattle.solutions.proofs.reasons.are_empty.Invariants.{provided}
 use Rattle.solutions.proofs.reasons.are_empty.Goals as goal
-
--- the provider's functions
-abbrev provided : (g : Over) → g.row.D.Denot → Provider g.row.D-NameId.Denot g.row.D-SolvableId.Denot
-provided g = gathered g.D.NameId.PartialEq.eq g.D.SolvableId.PartialEq.eq g.D.NameId.Slots.IdMap.is_too_large
-    g.D.SolvableId.Slots.IdMap.is_too_large
-    g.D.SolvableId.Set.IdSet.is_too_large g.D.NameId.SolverId.are_many g.D.Interner.universe
-    g.D.DependencyProvider.answers
 
 pub loop-set-preserved : goal.loop-set-preserved
 loop-set-preserved g c =

@@ -1,7 +1,5 @@
 use Rattle.std.proofs.Common.{◌∙◌, ap, subst, sym}
-use Rattle.std.specs.List.{Contains}
-use Rattle.resolvo_pool.specs.Dependencies.{needs_of}
-use Rattle.solutions.specs.Reasons.{requirements_in}
+use Rattle.solutions.proofs.Words.{Contains, needs_of, requirements_in}
 use Rattle.solutions.proofs.reasons.does_require.Given.{Over}
 use Rattle.solutions.proofs.reasons.does_require.Goals as goal
 

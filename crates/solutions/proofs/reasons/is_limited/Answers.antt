@@ -1,7 +1,5 @@
 use Rattle.std.proofs.Common.{◌∙◌, ap, subst, sym}
-use Rattle.std.specs.List.{Contains}
-use Rattle.resolvo_pool.specs.Dependencies.{needs_of}
-use Rattle.solutions.specs.Reasons.{constraints_in}
+use Rattle.solutions.proofs.Words.{constraints_in, Contains, needs_of}
 use Rattle.solutions.proofs.reasons.is_limited.Given.{Over}
 use Rattle.solutions.proofs.reasons.is_limited.Goals as goal
 

@@ -1,16 +1,14 @@
 use Rattle.std.proofs.Common.{subst, sym}
-use Rattle.solutions.specs.Reasons.{IsSo}
+use Rattle.solutions.proofs.Words.{gathered, IsSo, Provider}
 use Rattle.solutions.proofs.DecisionLemmas.{answered}
-use Rattle.resolvo_pool.specs.Functions.{Provider, gathered}
 use Rattle.solutions.proofs.reasons.is_so.Given.{Over}
 use Rattle.solutions.proofs.reasons.is_so.Goals as goal
 
 -- the provider's functions
 abbrev provided : (g : Over) → g.row.D.Denot → Provider g.row.D-NameId.Denot g.row.D-SolvableId.Denot
 provided g = gathered g.D.NameId.PartialEq.eq g.D.SolvableId.PartialEq.eq g.D.NameId.Slots.IdMap.is_too_large
-    g.D.SolvableId.Slots.IdMap.is_too_large
-    g.D.SolvableId.Set.IdSet.is_too_large g.D.NameId.SolverId.are_many g.D.Interner.universe
-    g.D.DependencyProvider.answers
+    g.D.SolvableId.Slots.IdMap.is_too_large g.D.SolvableId.Set.IdSet.is_too_large g.D.NameId.SolverId.are_many
+    g.D.Interner.universe g.D.DependencyProvider.answers
 
 pub returns-in-Needs : goal.returns-in-Needs
 returns-in-Needs g c =

@@ -1,23 +1,14 @@
 use Rattle.std.proofs.Common.{[], List, ap, subst}
-use Rattle.std.specs.List.{All}
-use Rattle.solutions.specs.Clauses.{Replayed}
-use Rattle.solutions.specs.Reasons.{IsMet}
+use Rattle.solutions.proofs.Words.{All, gathered, IsMet, Replayed}
 use Rattle.solutions.proofs.DecisionLemmas.{answered}
 use Rattle.solutions.proofs.ReplayLemmas.{refuted_selections}
-use Rattle.resolvo_pool.specs.Functions.{Provider, gathered}
-use Rattle.solutions.proofs.refuting.are_enough.Given.{Over}
 use Rattle.solutions.proofs.refuting.are_enough.Goals as goal
-
--- the provider's functions
-abbrev provided : (g : Over) → g.row.D.Denot → Provider g.row.D-NameId.Denot g.row.D-SolvableId.Denot
-provided g = gathered g.D.NameId.PartialEq.eq g.D.SolvableId.PartialEq.eq g.D.NameId.Slots.IdMap.is_too_large
-    g.D.SolvableId.Slots.IdMap.is_too_large
-    g.D.SolvableId.Set.IdSet.is_too_large g.D.NameId.SolverId.are_many g.D.Interner.universe
-    g.D.DependencyProvider.answers
 
 pub returns : goal.returns
 returns g c =
-    let p = provided g c.args.provider.now in
+    let p = gathered g.D.NameId.PartialEq.eq g.D.SolvableId.PartialEq.eq g.D.NameId.Slots.IdMap.is_too_large
+    g.D.SolvableId.Slots.IdMap.is_too_large g.D.SolvableId.Set.IdSet.is_too_large g.D.NameId.SolverId.are_many
+    g.D.Interner.universe g.D.DependencyProvider.answers c.args.provider.now in
     let clauses = c.in_ok-theory.theory.clauses.items in
     let now = c.all.new.self.theory.clauses.items in
     let trail = c.all.new.self.trail.literals.items in

@@ -1,6 +1,6 @@
 use Rattle.std.proofs.Common.{◌≡◌, ◌∙◌, ◌∷◌, [], ◌++◌, not, get_or, sym, ap, rules}
 use Rattle.std.proofs.lemmas.List.{map_more}
-use Rattle.solutions.specs.declared.literal.Literal.{Literal}
+use Rattle.solutions.proofs.Words.{Literal}
 use Rattle.solutions.proofs.refuting.negated.Goals as goal
 
 pub loop-literal-preserved : goal.loop-literal-preserved

@@ -1,5 +1,5 @@
 use Rattle.std.proofs.Common.{◌≡◌, map, not, take}
-use Rattle.solutions.specs.declared.literal.Literal.{Literal}
+use Rattle.solutions.proofs.Words.{Literal}
 use Rattle.solutions.proofs.refuting.negated.Given as goal
 
 abbrev pub invariant-loop-literal : goal.invariant-loop-literal

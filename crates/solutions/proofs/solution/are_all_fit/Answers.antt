@@ -1,17 +1,8 @@
 use Rattle.std.proofs.Common.{◌≡◌, true, rules}
-use Rattle.resolvo_pool.specs.Functions.{Provider, gathered}
-use Rattle.solutions.specs.Selections.{is_kept}
-use Rattle.solutions.specs.Truth.{IsFit}
+use Rattle.solutions.proofs.Words.{is_kept, IsFit}
 use Rattle.solutions.proofs.DecisionLemmas.{none_fails, next_holds}
-use Rattle.solutions.proofs.solution.are_all_fit.Given.{Over}
+use Rattle.solutions.proofs.solution.are_all_fit.Invariants.{provided}
 use Rattle.solutions.proofs.solution.are_all_fit.Goals as goal
-
--- the provider's functions
-abbrev provided : (g : Over) → g.row.D.Denot → Provider g.row.D-NameId.Denot g.row.D-SolvableId.Denot
-provided g = gathered g.D.NameId.PartialEq.eq g.D.SolvableId.PartialEq.eq g.D.NameId.Slots.IdMap.is_too_large
-    g.D.SolvableId.Slots.IdMap.is_too_large
-    g.D.SolvableId.Set.IdSet.is_too_large g.D.NameId.SolverId.are_many g.D.Interner.universe
-    g.D.DependencyProvider.answers
 
 pub loop-solvable-preserved : goal.loop-solvable-preserved
 loop-solvable-preserved g c =

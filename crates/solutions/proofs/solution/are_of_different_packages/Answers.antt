@@ -1,8 +1,7 @@
 use Rattle.std.proofs.Common.{◌≡◌, ◌∙◌, ◌+◌, ◌++◌, ◌∷◌, [], true, false, sym, ap, subst, map, take}
-use Rattle.std.specs.List.{IsDistinct, list_any}
 use Rattle.std.proofs.Common.{rules}
 use Rattle.std.proofs.lemmas.List.Elements.{All-nil}
-use Rattle.resolvo_ids.specs.TotalMaps.{IsUpdate}
+use Rattle.solutions.proofs.Words.{IsDistinct, IsUpdate, list_any}
 use Rattle.solutions.proofs.DecisionLemmas.{decides_false, next_holds}
 use Rattle.solutions.proofs.MemberLemmas.{one_more, distinct_more, no_members, more_keys, repeated}
 use Rattle.solutions.proofs.solution.are_of_different_packages.Goals as goal

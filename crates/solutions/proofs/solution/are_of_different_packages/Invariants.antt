@@ -1,5 +1,5 @@
 use Rattle.std.proofs.Common.{◌≡◌, true, map, take}
-use Rattle.std.specs.List.{All, IsDistinct, list_any}
+use Rattle.solutions.proofs.Words.{All, IsDistinct, list_any}
 use Rattle.solutions.proofs.solution.are_of_different_packages.Given as goal
 
 abbrev pub invariant-loop-solvable : goal.invariant-loop-solvable

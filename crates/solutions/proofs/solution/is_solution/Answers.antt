@@ -1,10 +1,5 @@
 use Rattle.std.proofs.Common.{subst}
-use Rattle.std.specs.Bool.{Decides}
-use Rattle.std.specs.List.{All}
-use Rattle.resolvo_pool.specs.Functions.{Provider, gathered}
-use Rattle.solutions.specs.Selections.{is_kept}
-use Rattle.solutions.specs.Solutions.{IsSatisfied}
-use Rattle.solutions.specs.Truth.{IsFit}
+use Rattle.solutions.proofs.Words.{All, Decides, gathered, is_kept, IsFit, IsSatisfied, Provider}
 use Rattle.solutions.proofs.DecisionLemmas.{answered}
 use Rattle.solutions.proofs.SolutionLemmas.{fit_decide, requested_fails}
 use Rattle.solutions.proofs.solution.is_solution.Given.{Over}
@@ -13,9 +8,8 @@ use Rattle.solutions.proofs.solution.is_solution.Goals as goal
 -- the provider's functions
 abbrev provided : (g : Over) → g.row.D.Denot → Provider g.row.D-NameId.Denot g.row.D-SolvableId.Denot
 provided g = gathered g.D.NameId.PartialEq.eq g.D.SolvableId.PartialEq.eq g.D.NameId.Slots.IdMap.is_too_large
-    g.D.SolvableId.Slots.IdMap.is_too_large
-    g.D.SolvableId.Set.IdSet.is_too_large g.D.NameId.SolverId.are_many g.D.Interner.universe
-    g.D.DependencyProvider.answers
+    g.D.SolvableId.Slots.IdMap.is_too_large g.D.SolvableId.Set.IdSet.is_too_large g.D.NameId.SolverId.are_many
+    g.D.Interner.universe g.D.DependencyProvider.answers
 
 pub returns-then-not-branch-2 : goal.returns-then-not-branch-2
 returns-then-not-branch-2 g c =

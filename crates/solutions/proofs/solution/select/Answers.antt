@@ -1,6 +1,6 @@
 use Rattle.std.proofs.Common.{◌≡◌, ◌∷◌, [], ◌++◌, ◌+◌, ◌∙◌, sym, ap, take}
-use Rattle.std.specs.List.{list_any}
 use Rattle.std.proofs.lemmas.List.{take_more, take_all}
+use Rattle.solutions.proofs.Words.{list_any}
 use Rattle.solutions.proofs.MemberLemmas.{one_more}
 use Rattle.solutions.proofs.solution.select.Goals as goal
 

@@ -1,5 +1,5 @@
 use Rattle.std.proofs.Common.{◌≡◌, take}
-use Rattle.std.specs.List.{list_any}
+use Rattle.solutions.proofs.Words.{list_any}
 use Rattle.solutions.proofs.solution.select.Given as goal
 
 abbrev pub invariant-loop-solvable : goal.invariant-loop-solvable

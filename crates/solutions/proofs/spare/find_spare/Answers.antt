@@ -1,25 +1,14 @@
 use Rattle.std.proofs.Common.{◌≡◌, ◌∙◌, true, false, map, ap, rules, refl, subst}
 use Rattle.std.proofs.Math.Path.{fun_ext}
-use Rattle.std.specs.Bool.{Decides}
-use Rattle.std.specs.List.{All, list_any}
 use Rattle.std.proofs.lemmas.List.{take_all}
 use Rattle.std.proofs.lemmas.List.Elements.{All-nil}
 use Rattle.std.proofs.lemmas.Option.{slice_get_read}
 use Rattle.std.specs.Prelude.{length}
-use Rattle.resolvo_pool.specs.Functions.{Provider, gathered}
-use Rattle.solutions.specs.Selections.{is_kept, rank_by}
-use Rattle.solutions.specs.Wishes.{IsSpare, alternatives_of}
+use Rattle.solutions.proofs.Words.{All, alternatives_of, Decides, is_kept, IsSpare, list_any, rank_by}
 use Rattle.solutions.proofs.DecisionLemmas.{next_holds, refuted}
 use Rattle.solutions.proofs.SpareLemmas.{others_kept}
-use Rattle.solutions.proofs.spare.find_spare.Given.{Over}
+use Rattle.solutions.proofs.spare.find_spare.Invariants.{provided}
 use Rattle.solutions.proofs.spare.find_spare.Goals as goal
-
--- the provider's functions
-abbrev provided : (g : Over) → g.row.D.Denot → Provider g.row.D-NameId.Denot g.row.D-SolvableId.Denot
-provided g = gathered g.D.NameId.PartialEq.eq g.D.SolvableId.PartialEq.eq g.D.NameId.Slots.IdMap.is_too_large
-    g.D.SolvableId.Slots.IdMap.is_too_large
-    g.D.SolvableId.Set.IdSet.is_too_large g.D.NameId.SolverId.are_many g.D.Interner.universe
-    g.D.DependencyProvider.answers
 
 pub loop-place-init : goal.loop-place-init
 loop-place-init g c =

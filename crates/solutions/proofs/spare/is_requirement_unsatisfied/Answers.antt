@@ -1,7 +1,6 @@
 use Rattle.std.proofs.Common.{◌<◌, length, ltb-true, refl, sym}
 use Rattle.std.proofs.lemmas.Option.{slice_get_read}
-use Rattle.resolvo_pool.specs.Functions.{Provider, gathered}
-use Rattle.solutions.specs.Selections.{is_kept}
+use Rattle.solutions.proofs.Words.{gathered, is_kept, Provider}
 use Rattle.solutions.proofs.SpareLemmas.{not_true, requirement_fails}
 use Rattle.solutions.proofs.spare.is_requirement_unsatisfied.Given.{Over}
 use Rattle.solutions.proofs.spare.is_requirement_unsatisfied.Goals as goal
@@ -9,9 +8,8 @@ use Rattle.solutions.proofs.spare.is_requirement_unsatisfied.Goals as goal
 -- the provider's functions
 abbrev provided : (g : Over) → g.row.D.Denot → Provider g.row.D-NameId.Denot g.row.D-SolvableId.Denot
 provided g = gathered g.D.NameId.PartialEq.eq g.D.SolvableId.PartialEq.eq g.D.NameId.Slots.IdMap.is_too_large
-    g.D.SolvableId.Slots.IdMap.is_too_large
-    g.D.SolvableId.Set.IdSet.is_too_large g.D.NameId.SolverId.are_many g.D.Interner.universe
-    g.D.DependencyProvider.answers
+    g.D.SolvableId.Slots.IdMap.is_too_large g.D.SolvableId.Set.IdSet.is_too_large g.D.NameId.SolverId.are_many
+    g.D.Interner.universe g.D.DependencyProvider.answers
 
 pub returns : goal.returns
 returns g c =

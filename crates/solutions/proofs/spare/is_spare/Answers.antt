@@ -1,9 +1,7 @@
 use Rattle.std.proofs.Common.{◌≡◌, ◌∙◌, true, map, ap, rules, subst, sym}
 use Rattle.std.proofs.Math.Path.{fun_ext}
-use Rattle.resolvo_pool.specs.Functions.{Provider, gathered}
-use Rattle.solutions.specs.Selections.{rank_by}
-use Rattle.solutions.specs.Solutions.{IsSolution}
-use Rattle.solutions.specs.Wishes.{AreRanksSame, alternatives_of, rank, without}
+use Rattle.solutions.proofs.Words.{alternatives_of, AreRanksSame, gathered, IsSolution, Provider, rank, rank_by}
+use Rattle.solutions.proofs.Words.{without}
 use Rattle.solutions.proofs.DecisionLemmas.{answered, decides_false, refuted}
 use Rattle.solutions.proofs.SpareLemmas.{not_false, not_true, ranks_decide}
 use Rattle.solutions.proofs.spare.is_spare.Given.{Over}
@@ -12,9 +10,8 @@ use Rattle.solutions.proofs.spare.is_spare.Goals as goal
 -- the provider's functions
 abbrev provided : (g : Over) → g.row.D.Denot → Provider g.row.D-NameId.Denot g.row.D-SolvableId.Denot
 provided g = gathered g.D.NameId.PartialEq.eq g.D.SolvableId.PartialEq.eq g.D.NameId.Slots.IdMap.is_too_large
-    g.D.SolvableId.Slots.IdMap.is_too_large
-    g.D.SolvableId.Set.IdSet.is_too_large g.D.NameId.SolverId.are_many g.D.Interner.universe
-    g.D.DependencyProvider.answers
+    g.D.SolvableId.Slots.IdMap.is_too_large g.D.SolvableId.Set.IdSet.is_too_large g.D.NameId.SolverId.are_many
+    g.D.Interner.universe g.D.DependencyProvider.answers
 
 pub returns-then-branch : goal.returns-then-branch
 returns-then-branch g c =

@@ -1,5 +1,5 @@
 use Rattle.std.proofs.Common.{◌≡◌, ◌++◌, Bool, List, drop, not}
-use Rattle.std.specs.Prelude.{filter}
+use Rattle.solutions.proofs.Words.{filter}
 use Rattle.solutions.proofs.spare.without.Given as goal
 
 -- the solvables but for one, by the equality of their type

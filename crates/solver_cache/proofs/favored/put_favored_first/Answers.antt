@@ -1,5 +1,5 @@
 use Rattle.std.proofs.Common.{◌∙◌, ap, sym}
-use Rattle.providers.specs.Provider.{favored_first}
+use Rattle.solver_cache.proofs.Words.{favored_first}
 use Rattle.solver_cache.proofs.FavoredLemmas.{brought_forward}
 use Rattle.solver_cache.proofs.favored.put_favored_first.Goals as goal
 

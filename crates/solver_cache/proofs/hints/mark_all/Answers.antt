@@ -1,6 +1,6 @@
 use Rattle.std.proofs.Common.{◌≡◌, ◌∷◌, [], ◌++◌, ◌+◌, ◌∙◌, true, sym, ap, subst, take, drop}
 use Rattle.std.proofs.lemmas.List.{take_more, take_all, take-append-drop}
-use Rattle.solver_cache.specs.Hints.{with_hints}
+use Rattle.solver_cache.proofs.Words.{with_hints}
 use Rattle.solver_cache.proofs.CacheLemmas.{on_err}
 use Rattle.solver_cache.proofs.HintLemmas.{no_hints, one_hint, still_marked, more_hints}
 use Rattle.solver_cache.proofs.hints.mark_all.Goals as goal

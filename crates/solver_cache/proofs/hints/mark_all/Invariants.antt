@@ -1,5 +1,5 @@
 use Rattle.std.proofs.Common.{◌≡◌, take}
-use Rattle.solver_cache.specs.Hints.{with_hints}
+use Rattle.solver_cache.proofs.Words.{with_hints}
 use Rattle.solver_cache.proofs.hints.mark_all.Given as goal
 
 abbrev pub invariant-loop-solvable : goal.invariant-loop-solvable

@@ -1,5 +1,4 @@
-use Rattle.resolvo_store.specs.Command.{reply_of}
-use Rattle.resolvo_store.specs.Store.{store_of, gathered}
+use Rattle.test_store_calls.proofs.Words.{gathered, reply_of, store_of}
 use Rattle.test_store_calls.proofs.LoadLaws.{one_list_each}
 use Rattle.test_store_calls.proofs.callers.load_first.Goals as goal
 

@@ -1,5 +1,5 @@
-use Rattle.resolvo_store.specs.Command.{command_of, reply_of}
 use Rattle.resolvo_store.proofs.CallerLaws.{store_in}
+use Rattle.test_store_calls.proofs.Words.{command_of, reply_of}
 use Rattle.test_store_calls.proofs.ClauseLaws.{added_next, added_known}
 use Rattle.test_store_calls.proofs.clause_callers.add.Goals as goal
 

@@ -1,7 +1,7 @@
-use Rattle.resolvo_store.specs.Store.{Provider, store_of, gathered}
 use Rattle.resolvo_store.proofs.CallerLaws.{store_in}
 use Rattle.resolvo_store.proofs.KeepingLaws.{OnlyGrows-run, clause_stays}
 use Rattle.resolvo_store.proofs.KnownLemmas.{IsLawful}
+use Rattle.test_store_calls.proofs.Words.{gathered, Provider, store_of}
 use Rattle.test_store_calls.proofs.ClauseLaws.{excluded_there}
 use Rattle.test_store_calls.proofs.keeping_callers.exclude_first.Given.{Over}
 use Rattle.test_store_calls.proofs.keeping_callers.exclude_first.Goals as goal
@@ -9,9 +9,8 @@ use Rattle.test_store_calls.proofs.keeping_callers.exclude_first.Goals as goal
 -- the provider's functions
 abbrev given : (g : Over) → g.row.D.Denot → Provider g.row.D-NameId.Denot g.row.D-SolvableId.Denot
 given g = gathered g.D.NameId.PartialEq.eq g.D.SolvableId.PartialEq.eq g.D.NameId.Slots.IdMap.is_too_large
-    g.D.SolvableId.Slots.IdMap.is_too_large
-    g.D.SolvableId.Set.IdSet.is_too_large g.D.NameId.SolverId.are_many g.D.Interner.universe
-    g.D.DependencyProvider.answers
+    g.D.SolvableId.Slots.IdMap.is_too_large g.D.SolvableId.Set.IdSet.is_too_large g.D.NameId.SolverId.are_many
+    g.D.Interner.universe g.D.DependencyProvider.answers
 
 -- its laws
 abbrev lawful : (g : Over) (p : g.row.D.Denot) → IsLawful (given g p)

@@ -1,9 +1,7 @@
 use Rattle.std.proofs.Common.{subst, sym}
-use Rattle.resolvo_store.specs.Command.{Load, command_of, reply_of}
-use Rattle.resolvo_store.specs.Step.{Step}
-use Rattle.resolvo_store.specs.Store.{Provider, gathered}
 use Rattle.resolvo_store.proofs.CallerLaws.{store_in}
 use Rattle.resolvo_store.proofs.KnownLemmas.{IsLawful}
+use Rattle.test_store_calls.proofs.Words.{command_of, gathered, Load, Provider, reply_of, Step}
 use Rattle.test_store_calls.proofs.StayingLaws.{same_loads, loads_candidates}
 use Rattle.test_store_calls.proofs.keeping_callers.load_again.Given.{Over}
 use Rattle.test_store_calls.proofs.keeping_callers.load_again.Goals as goal
@@ -11,9 +9,8 @@ use Rattle.test_store_calls.proofs.keeping_callers.load_again.Goals as goal
 -- the provider's functions
 abbrev given : (g : Over) → g.row.D.Denot → Provider g.row.D-NameId.Denot g.row.D-SolvableId.Denot
 given g = gathered g.D.NameId.PartialEq.eq g.D.SolvableId.PartialEq.eq g.D.NameId.Slots.IdMap.is_too_large
-    g.D.SolvableId.Slots.IdMap.is_too_large
-    g.D.SolvableId.Set.IdSet.is_too_large g.D.NameId.SolverId.are_many g.D.Interner.universe
-    g.D.DependencyProvider.answers
+    g.D.SolvableId.Slots.IdMap.is_too_large g.D.SolvableId.Set.IdSet.is_too_large g.D.NameId.SolverId.are_many
+    g.D.Interner.universe g.D.DependencyProvider.answers
 
 -- its laws
 abbrev lawful : (g : Over) (p : g.row.D.Denot) → IsLawful (given g p)

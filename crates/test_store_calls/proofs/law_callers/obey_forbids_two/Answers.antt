@@ -1,9 +1,7 @@
 use Rattle.std.proofs.Common.{◌≡◌, Bool, true, false, cond, List, [], ◌∷◌, refl}
-use Rattle.std.specs.Prelude.{All, filter}
-use Rattle.std.specs.List.{AllByRecursion}
 use Rattle.std.proofs.lemmas.List.Elements.{All-head, All-tail}
-use Rattle.resolvo_store.specs.ForbidsTwo.{is_forbidding, is_satisfied}
 use Rattle.resolvo_store.proofs.CallerLaws.{store_in}
+use Rattle.test_store_calls.proofs.Words.{All, AllByRecursion, filter, is_forbidding, is_satisfied}
 use Rattle.test_store_calls.proofs.law_callers.obey_forbids_two.Goals as goal
 
 -- what holds of each member holds of each that passes a test

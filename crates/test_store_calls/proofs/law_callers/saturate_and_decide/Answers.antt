@@ -1,8 +1,7 @@
 use Rattle.std.proofs.Common.{subst}
-use Rattle.resolvo_store.specs.Command.{Saturate, Decide, reply_of}
-use Rattle.resolvo_store.specs.Step.{Step}
 use Rattle.resolvo_store.proofs.CallerLaws.{store_in, done_settles, done_unfalsified, decides_unfalsified}
 use Rattle.resolvo_store.proofs.CallerLaws.{no_decision_is_model}
+use Rattle.test_store_calls.proofs.Words.{Decide, reply_of, Saturate, Step}
 use Rattle.test_store_calls.proofs.law_callers.saturate_and_decide.Goals as goal
 
 pub returns-in-Done-clause-unfalsified : goal.returns-in-Done-clause-unfalsified

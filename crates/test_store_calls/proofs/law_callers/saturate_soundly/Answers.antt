@@ -1,5 +1,5 @@
-use Rattle.resolvo_store.specs.Command.{reply_of}
 use Rattle.resolvo_store.proofs.CallerLaws.{store_in, forces_more, rules_out_none, conflict_means_none}
+use Rattle.test_store_calls.proofs.Words.{reply_of}
 use Rattle.test_store_calls.proofs.law_callers.saturate_soundly.Goals as goal
 
 pub returns-clause-implied : goal.returns-clause-implied

@@ -1,7 +1,6 @@
 use Rattle.std.proofs.Common.{subst}
-use Rattle.resolvo_store.specs.Command.{Decide}
-use Rattle.resolvo_store.specs.Step.{Step}
 use Rattle.resolvo_store.proofs.CallerLaws.{store_in, solved}
+use Rattle.test_store_calls.proofs.Words.{Decide, Step}
 use Rattle.test_store_calls.proofs.law_callers.search_is_done.Goals as goal
 
 pub returns : goal.returns

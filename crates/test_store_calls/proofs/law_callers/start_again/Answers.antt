@@ -1,7 +1,6 @@
 use Rattle.std.proofs.Common.{ap}
-use Rattle.resolvo_clauses.specs.Trail.{val}
-use Rattle.resolvo_store.specs.Command.{reply_of}
 use Rattle.resolvo_store.proofs.CallerLaws.{store_in, undone_to_zero}
+use Rattle.test_store_calls.proofs.Words.{reply_of, val}
 use Rattle.test_store_calls.proofs.law_callers.start_again.Goals as goal
 
 pub returns-clause-trail : goal.returns-clause-trail

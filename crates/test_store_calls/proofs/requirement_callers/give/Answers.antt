@@ -1,9 +1,5 @@
 use Rattle.std.proofs.Common.{◌≡◌, Some, cond, not, subst, inl, inr}
-use Rattle.resolvo_clauses.specs.Types.Decision.{Decision}
-use Rattle.resolvo_store.specs.Answers.{assignment}
-use Rattle.resolvo_store.specs.Command.{Assign}
-use Rattle.resolvo_store.specs.Step.{Step}
-use Rattle.resolvo_store.specs.Store.{Provider, store_of, gathered, values}
+use Rattle.test_store_calls.proofs.Words.{Assign, assignment, Decision, gathered, Provider, Step, store_of, values}
 use Rattle.test_store_calls.proofs.AnswerLaws.{given_value, is_given}
 use Rattle.test_store_calls.proofs.requirement_callers.give.Given.{Over}
 use Rattle.test_store_calls.proofs.requirement_callers.give.Goals as goal
@@ -11,9 +7,8 @@ use Rattle.test_store_calls.proofs.requirement_callers.give.Goals as goal
 -- the provider's functions
 abbrev given : (g : Over) → g.row.D.Denot → Provider g.row.D-NameId.Denot g.row.D-SolvableId.Denot
 given g = gathered g.D.NameId.PartialEq.eq g.D.SolvableId.PartialEq.eq g.D.NameId.Slots.IdMap.is_too_large
-    g.D.SolvableId.Slots.IdMap.is_too_large
-    g.D.SolvableId.Set.IdSet.is_too_large g.D.NameId.SolverId.are_many g.D.Interner.universe
-    g.D.DependencyProvider.answers
+    g.D.SolvableId.Slots.IdMap.is_too_large g.D.SolvableId.Set.IdSet.is_too_large g.D.NameId.SolverId.are_many
+    g.D.Interner.universe g.D.DependencyProvider.answers
 
 pub returns-in-New-clause-given : goal.returns-in-New-clause-given
 returns-in-New-clause-given g c =

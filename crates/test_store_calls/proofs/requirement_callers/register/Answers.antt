@@ -1,6 +1,5 @@
 use Rattle.std.proofs.Common.{None, refl}
-use Rattle.resolvo_store.specs.Command.{Requires}
-use Rattle.resolvo_store.specs.Store.{Provider, store_of, gathered}
+use Rattle.test_store_calls.proofs.Words.{gathered, Provider, Requires, store_of}
 use Rattle.test_store_calls.proofs.AnswerLaws.{on_error, refused_stays, registered}
 use Rattle.test_store_calls.proofs.requirement_callers.register.Given.{Over}
 use Rattle.test_store_calls.proofs.requirement_callers.register.Goals as goal
@@ -8,9 +7,8 @@ use Rattle.test_store_calls.proofs.requirement_callers.register.Goals as goal
 -- the provider's functions
 abbrev given : (g : Over) → g.row.D.Denot → Provider g.row.D-NameId.Denot g.row.D-SolvableId.Denot
 given g = gathered g.D.NameId.PartialEq.eq g.D.SolvableId.PartialEq.eq g.D.NameId.Slots.IdMap.is_too_large
-    g.D.SolvableId.Slots.IdMap.is_too_large
-    g.D.SolvableId.Set.IdSet.is_too_large g.D.NameId.SolverId.are_many g.D.Interner.universe
-    g.D.DependencyProvider.answers
+    g.D.SolvableId.Slots.IdMap.is_too_large g.D.SolvableId.Set.IdSet.is_too_large g.D.NameId.SolverId.are_many
+    g.D.Interner.universe g.D.DependencyProvider.answers
 
 pub returns-clause-added : goal.returns-clause-added
 returns-clause-added g c =

@@ -1,9 +1,6 @@
 use Rattle.std.proofs.Common.{subst}
-use Rattle.resolvo_store.specs.Answers.{next}
-use Rattle.resolvo_store.specs.Command.{Decide}
-use Rattle.resolvo_store.specs.Step.{Step}
-use Rattle.resolvo_store.specs.Store.{Provider, store_of, gathered}
 use Rattle.resolvo_store.proofs.CallerLaws.{solved}
+use Rattle.test_store_calls.proofs.Words.{Decide, gathered, next, Provider, Step, store_of}
 use Rattle.test_store_calls.proofs.AnswerLaws.{falsified_told}
 use Rattle.test_store_calls.proofs.searching.search.Given.{Over}
 use Rattle.test_store_calls.proofs.searching.search.Goals as goal
@@ -11,9 +8,8 @@ use Rattle.test_store_calls.proofs.searching.search.Goals as goal
 -- the provider's functions
 abbrev given : (g : Over) → g.row.D.Denot → Provider g.row.D-NameId.Denot g.row.D-SolvableId.Denot
 given g = gathered g.D.NameId.PartialEq.eq g.D.SolvableId.PartialEq.eq g.D.NameId.Slots.IdMap.is_too_large
-    g.D.SolvableId.Slots.IdMap.is_too_large
-    g.D.SolvableId.Set.IdSet.is_too_large g.D.NameId.SolverId.are_many g.D.Interner.universe
-    g.D.DependencyProvider.answers
+    g.D.SolvableId.Slots.IdMap.is_too_large g.D.SolvableId.Set.IdSet.is_too_large g.D.NameId.SolverId.are_many
+    g.D.Interner.universe g.D.DependencyProvider.answers
 
 pub returns-in-Done : goal.returns-in-Done
 returns-in-Done g c =

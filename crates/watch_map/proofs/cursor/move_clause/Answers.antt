@@ -1,6 +1,5 @@
 use Rattle.std.proofs.Common.{sym, subst}
-use Rattle.watch_map.specs.WatchLists.{literal_of}
-use Rattle.watch_map.specs.WatchCalls.{IsReached, passed, rest}
+use Rattle.watch_map.proofs.Words.{IsReached, literal_of, passed, rest}
 use Rattle.watch_map.proofs.CursorLaws.{reached_watches, reached_cursor}
 use Rattle.watch_map.proofs.cursor.move_clause.Goals as goal
 

@@ -1,6 +1,5 @@
 use Rattle.std.proofs.Common.{◌++◌, ◌∷◌, [], Some, sym, subst}
-use Rattle.watch_map.specs.WatchLists.{literal_of, clause_of}
-use Rattle.watch_map.specs.WatchCalls.{IsReached, passed, rest}
+use Rattle.watch_map.proofs.Words.{clause_of, IsReached, literal_of, passed, rest}
 use Rattle.watch_map.proofs.CursorLaws.{reached_watches, reached_cursor}
 use Rattle.watch_map.proofs.MoveLaws.{reached_past}
 use Rattle.watch_map.proofs.cursor.next_place.Goals as goal

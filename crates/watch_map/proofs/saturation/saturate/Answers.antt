@@ -1,11 +1,7 @@
 use Rattle.std.proofs.Common.{◌≤◌, length, drop, sym, subst, ◌∙◌, arith}
-use Rattle.decisions.specs.Trail.{val, level_of}
-use Rattle.watch_map.specs.WatchLists.{watched_by}
-use Rattle.watch_map.specs.Implication.{AreSettled, IsConflict}
-use Rattle.watch_map.specs.WatchInvariant.{AreWatchesSatisfied}
+use Rattle.watch_map.proofs.Words.{AreSettled, AreWatchesSatisfied, IsConflict, IsMark, level_of, Mark, val, watched_by}
 use Rattle.watch_map.specs.Visits.{literals_at}
-use Rattle.watch_map.specs.Marks.{IsMark, IsBehind}
-use Rattle.watch_map.specs.declared.marks.Mark.{Mark}
+use Rattle.watch_map.specs.Marks.{IsBehind}
 use Rattle.watch_map.proofs.ImplicationLaws.{forced_longer, added_levels}
 use Rattle.watch_map.proofs.MarkLaws.{newest_is_mark, mark_saturated, marks_saturated, marks_remembered}
 use Rattle.watch_map.proofs.RoundLaws.{none_case, some_case, as_many_decisions}

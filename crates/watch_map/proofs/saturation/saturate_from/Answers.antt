@@ -1,9 +1,6 @@
 use Rattle.std.proofs.Common.{◌≡◌, ◌≢◌, ℕ, List, length, refl, sym, subst, ◌∙◌, arith}
-use Rattle.decisions.specs.Trail.{Entry, val}
-use Rattle.watch_map.specs.WatchLists.{watched_by}
-use Rattle.watch_map.specs.Implication.{IsConflict}
-use Rattle.watch_map.specs.WatchInvariant.{AreWatchesSatisfied, val_before}
-use Rattle.watch_map.specs.Visits.{literals_at, AreAllSettled}
+use Rattle.watch_map.proofs.Words.{AreAllSettled, AreWatchesSatisfied, Entry, IsConflict, val, val_before, watched_by}
+use Rattle.watch_map.specs.Visits.{literals_at}
 use Rattle.watch_map.proofs.InputLaws.{given_within}
 use Rattle.watch_map.proofs.ImplicationLaws.{forced_none, forced_then, forced_longer, forced_same}
 use Rattle.watch_map.proofs.MarkLaws.{mark_begins, mark_unwatched, mark_saturated}

@@ -1,6 +1,5 @@
 use Rattle.std.proofs.Common.{ap, ◌∙◌}
-use Rattle.clauses.specs.Clauses.{first_watches}
-use Rattle.clauses.specs.declared.clause.Clause.TheVariants.{ForbidMultipleInstances}
+use Rattle.watch_map.proofs.Words.{first_watches, ForbidMultipleInstances}
 use Rattle.watch_map.proofs.ListLaws.{literal_of_sign, no_literals, no_values}
 use Rattle.watch_map.proofs.walks.forbidden.Goals as goal
 

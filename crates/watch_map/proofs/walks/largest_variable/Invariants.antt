@@ -1,5 +1,5 @@
 use Rattle.std.proofs.Common.{◌≡◌, ◌-◌, ◌<◌, ◌^◌, take}
-use Rattle.watch_map.specs.Walks.{largest_variable}
+use Rattle.watch_map.proofs.Words.{largest_variable}
 use Rattle.watch_map.proofs.walks.largest_variable.Given as goal
 
 abbrev pub invariant-loop-clause : goal.invariant-loop-clause

@@ -1,7 +1,5 @@
-use Rattle.std.specs.Prelude.{◌≡◌, true, length, IfSome}
-use Rattle.watch_map.specs.Watching.{is_clause_in}
-use Rattle.watch_map.specs.WatchLists.{literal_of}
-use Rattle.watch_map.specs.WatchCalls.{StandsIn, remaining}
+use Rattle.std.specs.Prelude.{◌≡◌, true, length}
+use Rattle.watch_map.proofs.Words.{IfSome, is_clause_in, literal_of, remaining, StandsIn}
 use Rattle.watch_map.proofs.walks.position.Given as goal
 
 abbrev pub invariant-loop-cursor : goal.invariant-loop-cursor

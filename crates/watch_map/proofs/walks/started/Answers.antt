@@ -1,5 +1,5 @@
 use Rattle.std.proofs.Common.{sym, subst}
-use Rattle.watch_map.specs.Walks.{StartsAtEnd}
+use Rattle.watch_map.proofs.Words.{StartsAtEnd}
 use Rattle.watch_map.proofs.ListLaws.{nothing_starts, something_starts}
 use Rattle.watch_map.proofs.walks.started.Goals as goal
 

@@ -1,6 +1,5 @@
-use Rattle.std.specs.Prelude.{◌≡◌, ◌++◌, length, IfSome}
-use Rattle.watch_map.specs.WatchLists.{watchers}
-use Rattle.watch_map.specs.WatchCalls.{StandsIn, remaining}
+use Rattle.std.specs.Prelude.{◌≡◌, ◌++◌, length}
+use Rattle.watch_map.proofs.Words.{IfSome, remaining, StandsIn, watchers}
 use Rattle.watch_map.proofs.walks.watchers.Given as goal
 
 abbrev pub invariant-loop-cursor : goal.invariant-loop-cursor

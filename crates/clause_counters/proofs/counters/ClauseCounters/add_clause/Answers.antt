@@ -1,6 +1,5 @@
 use Rattle.std.proofs.Common.{◌≡◌, ◌&&◌, length, sym, subst, ◌∙◌}
-use Rattle.clause_counters.specs.CounterState.{counters_in, fit_three}
-use Rattle.clause_counters.specs.GroupedClauses.{Represents}
+use Rattle.clause_counters.proofs.Words.{counters_in, fit_three, Represents}
 use Rattle.clause_counters.proofs.AddedLaws.{shows_clause, clauses_shown}
 use Rattle.clause_counters.proofs.counters.ClauseCounters.add_clause.Goals as goal
 

@@ -1,12 +1,7 @@
 use Rattle.std.proofs.Common.{◌≡◌, ℕ, List, ◌+◌, ◌≤◌, Bool, cond, eqb, ◌++◌, ◌∷◌, [], length, refl, sym, ap, subst}
 use Rattle.std.proofs.Common.{◌∙◌, ◌&&◌}
-use Rattle.clause_counters.specs.declared.groups.Standing.{Standing}
-use Rattle.clause_counters.specs.declared.groups.Group.{Group}
-use Rattle.clause_counters.specs.Links.{numbers_at, count}
-use Rattle.clause_counters.specs.Counted.{standing_at}
-use Rattle.clause_counters.specs.Adding.{AreFlagged}
-use Rattle.clause_counters.specs.CounterState.{counters_in, fit_three}
-use Rattle.clause_counters.specs.GroupedClauses.{Represents, once, with_group}
+use Rattle.clause_counters.proofs.Words.{AreFlagged, count, counters_in, fit_three, Group, numbers_at, once, Represents}
+use Rattle.clause_counters.proofs.Words.{Standing, standing_at, with_group}
 use Rattle.clause_counters.proofs.PoolLaws.{moved}
 use Rattle.clause_counters.proofs.AddedLaws.{shows_group, groups_shown}
 use Rattle.clause_counters.proofs.counters.ClauseCounters.add_group.Goals as goal

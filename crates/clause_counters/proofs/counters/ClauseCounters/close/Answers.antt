@@ -1,8 +1,7 @@
 use Rattle.std.proofs.Common.{◌≡◌, ◌<◌, true, refl, sym, subst, set, arith, length, ◌&&◌}
 use Rattle.std.proofs.lemmas.List.{get_or_read_under}
-use Rattle.clause_counters.specs.declared.groups.Standing.{Standing}
-use Rattle.clause_counters.specs.Counted.{standing_at, no_standing}
-use Rattle.clause_counters.specs.CounterState.{counters_in, with_flag, IsSameButRoom, fit_three}
+use Rattle.clause_counters.proofs.Words.{counters_in, fit_three, IsSameButRoom, no_standing, Standing, standing_at}
+use Rattle.clause_counters.proofs.Words.{with_flag}
 use Rattle.clause_counters.proofs.FlagLaws.{told_kept}
 use Rattle.clause_counters.proofs.counters.ClauseCounters.close.Goals as goal
 

@@ -1,7 +1,5 @@
 use Rattle.std.proofs.Common.{true, subst}
-use Rattle.decisions.specs.LiteralIndex.{literal_index}
-use Rattle.clause_counters.specs.CounterState.{with_flag, IsSameButRoom}
-use Rattle.clause_counters.specs.GroupedClauses.{has_index, with_false}
+use Rattle.clause_counters.proofs.Words.{has_index, IsSameButRoom, literal_index, with_false, with_flag}
 use Rattle.clause_counters.proofs.ShownLaws.{shows_told, or_is, shows_room}
 use Rattle.clause_counters.proofs.counters.ClauseCounters.make_false.Goals as goal
 

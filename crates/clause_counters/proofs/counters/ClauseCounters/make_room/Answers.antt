@@ -1,6 +1,5 @@
 use Rattle.std.proofs.Common.{◌&&◌, length, sym, subst}
-use Rattle.clause_counters.specs.CounterState.{fit_three}
-use Rattle.clause_counters.specs.GroupedClauses.{Represents}
+use Rattle.clause_counters.proofs.Words.{fit_three, Represents}
 use Rattle.clause_counters.proofs.ShownLaws.{shows_again}
 use Rattle.clause_counters.proofs.counters.ClauseCounters.make_room.Goals as goal
 

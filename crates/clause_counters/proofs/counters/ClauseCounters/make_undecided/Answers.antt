@@ -1,7 +1,5 @@
 use Rattle.std.proofs.Common.{false, subst}
-use Rattle.decisions.specs.LiteralIndex.{literal_index}
-use Rattle.clause_counters.specs.CounterState.{with_flag, IsSameButRoom}
-use Rattle.clause_counters.specs.GroupedClauses.{has_index, with_undecided}
+use Rattle.clause_counters.proofs.Words.{has_index, IsSameButRoom, literal_index, with_flag, with_undecided}
 use Rattle.clause_counters.proofs.ShownLaws.{shows_told, not_and_is, shows_room}
 use Rattle.clause_counters.proofs.counters.ClauseCounters.make_undecided.Goals as goal
 

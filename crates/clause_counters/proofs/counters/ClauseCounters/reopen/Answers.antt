@@ -1,10 +1,8 @@
 use Rattle.std.proofs.Common.{◌≡◌, ◌<◌, true, false, refl, sym, ap, subst, ◌∙◌, set, arith, length, ◌&&◌}
 use Rattle.std.proofs.lemmas.List.{get_or_read_under}
 use Rattle.std.proofs.lemmas.Bool.{not-false}
-use Rattle.clause_counters.specs.declared.groups.Standing.{Standing}
-use Rattle.clause_counters.specs.Links.{numbers_at, count}
-use Rattle.clause_counters.specs.Counted.{standing_at, no_standing}
-use Rattle.clause_counters.specs.CounterState.{counters_in, with_flag, IsSameButRoom, fit_three}
+use Rattle.clause_counters.proofs.Words.{count, counters_in, fit_three, IsSameButRoom, no_standing, numbers_at}
+use Rattle.clause_counters.proofs.Words.{Standing, standing_at, with_flag}
 use Rattle.clause_counters.proofs.FlagLaws.{told_kept, of_literal, closed_literal}
 use Rattle.clause_counters.proofs.counters.ClauseCounters.reopen.Goals as goal
 

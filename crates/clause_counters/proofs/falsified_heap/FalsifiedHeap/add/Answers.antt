@@ -1,9 +1,8 @@
 use Rattle.std.proofs.Common.{◌≡◌, ◌+◌, ◌<◌, ◌≤◌, ◌^◌, ◌++◌, ◌∷◌, [], true, false, length, sym, ap, subst, ◌∙◌, refl}
 use Rattle.std.proofs.Common.{arith}
 use Rattle.std.proofs.lemmas.List.{map_push}
-use Rattle.std.specs.BinaryHeap.{heap_items, heap_capacity}
-use Rattle.clause_counters.specs.declared.falsified_heap.Clause.{Clause}
-use Rattle.clause_counters.specs.FalsifiedHeap.{Tallies, IsHeld, IsFalsifiedHeap, lefts_of, firsts_of, with_mark}
+use Rattle.clause_counters.proofs.Words.{Clause, firsts_of, heap_capacity, heap_items, IsFalsifiedHeap, IsHeld}
+use Rattle.clause_counters.proofs.Words.{lefts_of, Tallies, with_mark}
 use Rattle.clause_counters.proofs.HeldLaws.{held_pushed}
 use Rattle.clause_counters.proofs.HeapLaws.{heap_pushed, heap_pushed_falsified, fits_parts}
 use Rattle.clause_counters.proofs.ClauseLaws.{lefts_kept, firsts_kept}

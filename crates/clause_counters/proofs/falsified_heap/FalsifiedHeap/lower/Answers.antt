@@ -1,11 +1,11 @@
 use Rattle.std.proofs.Common.{◌≡◌, ◌-◌, ◌<◌, true, sym, ap, subst, ◌∙◌}
 use Rattle.std.proofs.lemmas.List.{get_or_read_under}
-use Rattle.clause_counters.specs.FalsifiedHeap.{heap_clause, no_heap_clause, lefts_of, firsts_of, Tallies}
+use Rattle.clause_counters.proofs.Words.{firsts_of, heap_clause, lefts_of, no_heap_clause, Tallies}
 use Rattle.clause_counters.proofs.ClauseLaws.{told_lefts, told_firsts, left_read, within_from_left, lefts_kept}
 use Rattle.clause_counters.proofs.ClauseLaws.{firsts_kept}
-use Rattle.clause_counters.proofs.falsified_heap.FalsifiedHeap.lower.Goals as goal
 use Rattle.clause_counters.proofs.falsified_heap.FalsifiedHeap.lower.Goals.{else-at-eq1-via-then-at-eq1+else-not-at}
 use Rattle.clause_counters.proofs.falsified_heap.FalsifiedHeap.lower.Goals.{else-at-eq1-via-else-at-eq1}
+use Rattle.clause_counters.proofs.falsified_heap.FalsifiedHeap.lower.Goals as goal
 
 pub returns-then-not-at-clause-lefts : goal.returns-then-not-at-clause-lefts
 returns-then-not-at-clause-lefts g c =

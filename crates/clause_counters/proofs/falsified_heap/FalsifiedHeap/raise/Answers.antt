@@ -1,7 +1,6 @@
 use Rattle.std.proofs.Common.{◌≡◌, ◌+◌, ◌<◌, length, sym, ap, subst, ◌∙◌}
 use Rattle.std.proofs.lemmas.List.{get_or_read_under, length-map}
-use Rattle.clause_counters.specs.declared.falsified_heap.Clause.{Clause}
-use Rattle.clause_counters.specs.FalsifiedHeap.{heap_clause, no_heap_clause, Tallies}
+use Rattle.clause_counters.proofs.Words.{Clause, heap_clause, no_heap_clause, Tallies}
 use Rattle.clause_counters.proofs.ClauseLaws.{told_lefts, told_firsts, left_read}
 use Rattle.clause_counters.proofs.falsified_heap.FalsifiedHeap.raise.Goals as goal
 

@@ -1,7 +1,6 @@
 use Rattle.std.proofs.Common.{◌∙◌, [], append-nil, subst}
 use Rattle.std.proofs.KnownBytes.{Appends-kept}
-use Rattle.std.specs.Io.KnownBytes.{Appends}
-use Rattle.example_answers.specs.Printed.{gap}
+use Rattle.example_answers.proofs.Words.{Appends, gap}
 use Rattle.example_answers.proofs.PrintLemmas.{any_err}
 use Rattle.example_answers.proofs.printer.Printer.end_line.Goals as goal
 

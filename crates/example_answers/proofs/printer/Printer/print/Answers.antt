@@ -1,7 +1,5 @@
 use Rattle.std.proofs.Common.{◌∙◌, OnErr, string_bytes, subst}
-use Rattle.std.specs.Io.KnownBytes.{Appends}
-use Rattle.script_text.specs.Output.{TakesSome}
-use Rattle.example_answers.specs.Printed.{gap}
+use Rattle.example_answers.proofs.Words.{Appends, gap, TakesSome}
 use Rattle.example_answers.proofs.PrintLemmas.{any_err, ends_behind, takes_behind, takes_more}
 use Rattle.example_answers.proofs.printer.Printer.print.Goals as goal
 

@@ -1,5 +1,5 @@
 use Rattle.std.proofs.Common.{arith, drop, string_bytes}
-use Rattle.example_answers.specs.Explained.{text_of_pick}
+use Rattle.example_answers.proofs.Words.{text_of_pick}
 use Rattle.example_answers.proofs.ExplainLemmas.{whole_without_more}
 use Rattle.example_answers.proofs.why.Picks.write_lines.Goals as goal
 

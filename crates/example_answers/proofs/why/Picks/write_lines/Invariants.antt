@@ -1,5 +1,5 @@
 use Rattle.std.proofs.Common.{◌≡◌, ◌++◌, drop, string_bytes}
-use Rattle.example_answers.specs.Explained.{lines_of_causes, text_of_pick}
+use Rattle.example_answers.proofs.Words.{lines_of_causes, text_of_pick}
 use Rattle.example_answers.proofs.why.Picks.write_lines.Given as goal
 
 abbrev pub invariant-loop-cause : goal.invariant-loop-cause

@@ -1,12 +1,8 @@
 use Rattle.std.proofs.Common.{◌≡◌, ◌∙◌, ℕ, false, ◌∷◌, ◌++◌, [], length, map, ap, sym, subst, refl}
-use Rattle.std.specs.Prelude.{◌==◌, slice_get}
+use Rattle.std.specs.Prelude.{◌==◌}
 use Rattle.std.proofs.lemmas.List.{map-append}
-use Rattle.index_text.specs.Plain.{plain_version}
-use Rattle.resolvo_pool.specs.Dependencies.{needs_of}
-use Rattle.resolvo_pool.specs.Pool.{IsLater}
-use Rattle.resolvo_pool.specs.Types.Solvable.{Solvable}
-use Rattle.example_index.specs.Listed.{IsKept, with_bytes, IsVersion}
-use Rattle.example_index.specs.Package.{IsWith, IsSame}
+use Rattle.example_index.proofs.Words.{IsKept, IsLater, IsSame, IsVersion, IsWith, needs_of, plain_version, slice_get}
+use Rattle.example_index.proofs.Words.{Solvable, with_bytes}
 use Rattle.example_index.proofs.EntryLemmas.{state_grown}
 use Rattle.example_index.proofs.Kept.{kept_more}
 use Rattle.example_index.proofs.Later.{later_bytes, later_twice, named_still, later_with_solvable}

@@ -1,11 +1,7 @@
 use Rattle.std.proofs.Common.{◌∙◌, ◌-◌, [], length, map, take, drop, arith, ap, sym, subst, refl}
-use Rattle.std.specs.List.{AllZip}
-use Rattle.std.specs.Prelude.{⊤}
-use Rattle.index_text.specs.Index.{index_in_format, versions_of, with_request, or_fault}
-use Rattle.index_text.specs.PlainLines.{plain_line}
-use Rattle.index_text.specs.PlainFormats.{plain_format}
-use Rattle.example_index.specs.Listed.{AreRead, IsRead, IsOf, with_bytes}
-use Rattle.example_index.specs.Meaning.{IsNeed, needs_in}
+use Rattle.index_text.specs.Index.{versions_of}
+use Rattle.example_index.proofs.Words.{AllZip, AreRead, index_in_format, IsNeed, IsOf, IsRead, needs_in, or_fault}
+use Rattle.example_index.proofs.Words.{plain_format, plain_line, with_bytes, with_request, ⊤}
 use Rattle.example_index.proofs.Later.{later_bytes, needs_still}
 use Rattle.example_index.proofs.LineLemmas.{request_read, request_is, lines_begin}
 use Rattle.example_index.proofs.index.SmallIndex.add_lines.Goals as goal

@@ -1,9 +1,7 @@
 use Rattle.std.proofs.Common.{map}
-use Rattle.resolvo_pool.specs.Dependencies.{needs_of}
-use Rattle.example_index.specs.Listed.{with_bytes}
+use Rattle.example_index.proofs.Words.{needs_of, slice_get, with_bytes}
 use Rattle.example_index.proofs.Kept.{kept_same, same_itself}
 use Rattle.example_index.proofs.Later.{later_bytes}
-use Rattle.std.specs.Prelude.{slice_get}
 use Rattle.example_index.proofs.index.SmallIndex.add_request.Goals as goal
 
 pub returns-in_err-self-clause-kept : goal.returns-in_err-self-clause-kept

@@ -1,10 +1,7 @@
 use Rattle.std.proofs.Common.{◌∙◌, map, arith, sym}
-use Rattle.std.specs.String.{string_bytes}
 use Rattle.std.proofs.lemmas.Bool.{not-false, not-true}
 use Rattle.std.proofs.lemmas.List.{length-map}
-use Rattle.index_text.specs.Plain.{plain_version}
-use Rattle.resolvo_pool.specs.Dependencies.{needs_of}
-use Rattle.example_index.specs.Listed.{IsOf, with_bytes}
+use Rattle.example_index.proofs.Words.{IsOf, needs_of, plain_version, string_bytes, with_bytes}
 use Rattle.example_index.proofs.Fresh.{added_none, added_some, same_known}
 use Rattle.example_index.proofs.Kept.{kept_same}
 use Rattle.example_index.proofs.Later.{later_bytes, named_here}

@@ -1,15 +1,10 @@
 use Rattle.std.proofs.Common.{◌∙◌, ◌+◌, List, arith, map, drop, ap, sym, subst}
 use Rattle.std.proofs.Math.ListN.{drop_of_length-le}
-use Rattle.std.specs.Prelude.{Ok, Err, ⊤, option_and_then}
 use Rattle.std.proofs.lemmas.Result.{err_from_is_err_and}
-use Rattle.index_text.specs.Index.{versions_of, with_version, or_fault}
-use Rattle.index_text.specs.Lines.{version_said}
-use Rattle.index_text.specs.PlainLines.{plain_line}
-use Rattle.index_text.specs.PlainFormats.{plain_format}
-use Rattle.index_text.specs.declared.line.Line.{Line}
+use Rattle.index_text.specs.Index.{versions_of}
 use Rattle.index_text.specs.declared.format.VersionFormat.{VersionFormat as Written}
-use Rattle.example_index.specs.Listed.{AreRead, IsOf}
-use Rattle.example_index.specs.Reading.{IsLineAdded}
+use Rattle.example_index.proofs.Words.{AreRead, Err, IsLineAdded, IsOf, Line, Ok, option_and_then, or_fault}
+use Rattle.example_index.proofs.Words.{plain_format, plain_line, version_said, with_version, ⊤}
 use Rattle.example_index.proofs.Later.{later_twice}
 use Rattle.example_index.proofs.LineLemmas.{line_added, fault_read, versions_step}
 use Rattle.example_index.proofs.index.SmallIndex.add_versions.Goals as goal

@@ -1,11 +1,6 @@
 use Rattle.std.proofs.Common.{◌≡◌, List, map, drop}
 use Rattle.index_text.specs.Index.{versions_of}
-use Rattle.index_text.specs.Lines.{VersionText}
-use Rattle.index_text.specs.PlainLines.{plain_line}
-use Rattle.index_text.specs.PlainFormats.{plain_format}
-use Rattle.resolvo_pool.specs.Pool.{IsLater}
-use Rattle.example_index.specs.Listed.{IsOf}
-use Rattle.example_index.specs.Reading.{numbered}
+use Rattle.example_index.proofs.Words.{IsLater, IsOf, numbered, plain_format, plain_line, VersionText}
 use Rattle.example_index.proofs.index.SmallIndex.add_versions.Given as goal
 
 -- the versions so far, and those of the lines that are left

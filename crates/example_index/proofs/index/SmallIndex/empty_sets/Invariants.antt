@@ -1,8 +1,5 @@
 use Rattle.std.proofs.Common.{◌≡◌, ◌<◌, ◌≤◌, ◌-◌, length, map}
-use Rattle.std.specs.Prelude.{All}
-use Rattle.resolvo_ids.specs.Types.VersionSetId.{VersionSetId}
-use Rattle.example_index.specs.Listed.{places_where}
-use Rattle.example_index.specs.Notes.{is_empty_at}
+use Rattle.example_index.proofs.Words.{All, is_empty_at, places_where, VersionSetId}
 use Rattle.example_index.proofs.index.SmallIndex.empty_sets.Given as goal
 
 -- the sets so far

@@ -1,6 +1,5 @@
 use Rattle.std.proofs.Common.{◌≡◌, ◌++◌, drop}
-use Rattle.std.specs.String.{string_bytes}
-use Rattle.example_index.specs.Notes.{versions_from}
+use Rattle.example_index.proofs.Words.{string_bytes, versions_from}
 use Rattle.example_index.proofs.index.SmallIndex.first_versions.Given as goal
 
 abbrev pub invariant-loop-i : goal.invariant-loop-i

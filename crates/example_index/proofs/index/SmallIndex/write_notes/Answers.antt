@@ -1,7 +1,5 @@
 use Rattle.std.proofs.Common.{◌∙◌, ℕ, ◌-◌, ◌+◌, List, [], ◌∷◌, ◌++◌, Option, arith, ap, drop, get_or, length, refl, sym}
-use Rattle.std.specs.Prelude.{unwrap_or}
-use Rattle.std.specs.String.{string_bytes}
-use Rattle.example_index.specs.Notes.{is_noted, notes_from}
+use Rattle.example_index.proofs.Words.{is_noted, notes_from, string_bytes, unwrap_or}
 use Rattle.example_index.proofs.NoteLemmas.{continued_more, continued_none, told_all, told_before, told_now, told_rest}
 use Rattle.example_index.proofs.index.SmallIndex.write_notes.Goals as goal
 

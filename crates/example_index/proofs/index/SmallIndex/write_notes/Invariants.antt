@@ -1,7 +1,5 @@
 use Rattle.std.proofs.Common.{◌≡◌, [], ◌++◌, drop}
-use Rattle.std.specs.String.{string_bytes}
-use Rattle.resolvo_pool.specs.Texts.{IsContinued, IsSameText}
-use Rattle.example_index.specs.Notes.{notes_from}
+use Rattle.example_index.proofs.Words.{IsContinued, IsSameText, notes_from, string_bytes}
 use Rattle.example_index.proofs.index.SmallIndex.write_notes.Given as goal
 
 abbrev pub invariant-loop-i : goal.invariant-loop-i

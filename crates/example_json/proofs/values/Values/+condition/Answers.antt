@@ -1,11 +1,8 @@
 use Rattle.std.proofs.Common.{◌≡◌, ◌∙◌, ◌<◌, ◌-◌, true, false, ap, arith, rules, sym}
 use Rattle.std.proofs.lemmas.Result.{IfOk-weaker}
-use Rattle.resolvo_pool.specs.Types.Condition.TheVariants as Cond
-use Rattle.serde_json.specs.Data.{null}
-use Rattle.serde_json.specs.View.{view}
-use Rattle.serde_json.specs.declared.value.Value.{Null, the_lemmas}
-use Rattle.example_json.specs.Values.{condition_data, joined}
+use Rattle.example_json.proofs.Words.{condition_data, joined, Null, null, the_lemmas, view}
 use Rattle.example_json.proofs.ConditionLemmas.{known_condition, unknown_condition}
+use Rattle.resolvo_pool.specs.Types.Condition.TheVariants as Cond
 use Rattle.example_json.proofs.values.Values.+condition.Goals as goal
 
 pub returns-then-not-knows_condition : goal.returns-then-not-knows_condition

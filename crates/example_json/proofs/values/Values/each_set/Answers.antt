@@ -1,7 +1,6 @@
 use Rattle.std.proofs.Common.{◌∙◌}
 use Rattle.serde_json.proofs.Views.{view-Array}
-use Rattle.serde_json.specs.View.{view}
-use Rattle.example_json.specs.Values.{set_data}
+use Rattle.example_json.proofs.Words.{set_data, view}
 use Rattle.example_json.proofs.GatherLemmas.{all_gathered, one_more}
 use Rattle.example_json.proofs.values.Values.each_set.Goals as goal
 

@@ -1,6 +1,5 @@
 use Rattle.std.proofs.Common.{◌≡◌, ◌++◌, map, drop}
-use Rattle.serde_json.specs.View.{view}
-use Rattle.example_json.specs.Values.{set_data}
+use Rattle.example_json.proofs.Words.{set_data, view}
 use Rattle.example_json.proofs.values.Values.each_set.Given as goal
 
 abbrev pub invariant-loop-set : goal.invariant-loop-set

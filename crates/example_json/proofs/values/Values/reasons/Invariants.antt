@@ -1,6 +1,5 @@
 use Rattle.std.proofs.Common.{◌≡◌, ◌++◌, map, drop}
-use Rattle.serde_json.specs.View.{view}
-use Rattle.example_json.specs.Reasons.{reason_data}
+use Rattle.example_json.proofs.Words.{reason_data, view}
 use Rattle.example_json.proofs.values.Values.reasons.Given as goal
 
 abbrev pub invariant-loop-reason : goal.invariant-loop-reason

@@ -1,7 +1,6 @@
 use Rattle.std.proofs.Common.{◌∙◌, ap}
 use Rattle.serde_json.proofs.Views.{view-Array}
-use Rattle.serde_json.specs.View.{view}
-use Rattle.example_json.specs.Values.{version_data}
+use Rattle.example_json.proofs.Words.{version_data, view}
 use Rattle.example_json.proofs.GatherLemmas.{all_gathered, one_more}
 use Rattle.example_json.proofs.values.Values.versions.Goals as goal
 

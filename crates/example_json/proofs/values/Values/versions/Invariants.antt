@@ -1,6 +1,5 @@
 use Rattle.std.proofs.Common.{◌≡◌, ◌++◌, map, drop}
-use Rattle.serde_json.specs.View.{view}
-use Rattle.example_json.specs.Values.{version_data}
+use Rattle.example_json.proofs.Words.{version_data, view}
 use Rattle.example_json.proofs.values.Values.versions.Given as goal
 
 abbrev pub invariant-loop-solvable : goal.invariant-loop-solvable

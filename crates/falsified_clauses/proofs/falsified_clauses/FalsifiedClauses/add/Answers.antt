@@ -1,6 +1,5 @@
 use Rattle.std.proofs.Common.{sym, ap, subst, ◌∙◌}
-use Rattle.falsified_clauses.specs.GroupKeys.{numbers}
-use Rattle.falsified_clauses.specs.Counts.{Counts, IsReady}
+use Rattle.falsified_clauses.proofs.Words.{Counts, IsReady, numbers}
 use Rattle.falsified_clauses.proofs.CountLaws.{counts_added}
 use Rattle.falsified_clauses.proofs.falsified_clauses.FalsifiedClauses.add.Goals as goal
 

@@ -1,10 +1,7 @@
 use Rattle.std.proofs.Common.{◌≡◌, Some, [], ◌∷◌, length, refl, sym, ap, subst, ◌∙◌, arith}
 use Rattle.std.proofs.lemmas.List.{length-append}
-use Rattle.typed_ids.specs.TotalMaps.{IsUpdate}
-use Rattle.falsified_clauses.specs.Clauses.{counted_under}
-use Rattle.falsified_clauses.specs.GroupKeys.{number_in}
-use Rattle.falsified_clauses.specs.GroupIndex.{number_of, FindsKeys}
-use Rattle.falsified_clauses.specs.Counts.{KeyedCounters, Counts, grouped_by}
+use Rattle.falsified_clauses.proofs.Words.{counted_under, Counts, FindsKeys, grouped_by, IsUpdate, KeyedCounters}
+use Rattle.falsified_clauses.proofs.Words.{number_in, number_of}
 use Rattle.falsified_clauses.proofs.KeyLaws.{finds_pushed}
 use Rattle.falsified_clauses.proofs.CountLaws.{counts_key}
 use Rattle.falsified_clauses.proofs.falsified_clauses.FalsifiedClauses.add_group.Goals as goal

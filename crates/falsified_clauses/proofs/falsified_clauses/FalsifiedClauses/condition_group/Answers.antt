@@ -1,6 +1,5 @@
 use Rattle.std.proofs.Common.{◌≡◌, ap, sym, subst}
-use Rattle.falsified_clauses.specs.declared.group_key.GroupKey.TheVariants.{Condition}
-use Rattle.falsified_clauses.specs.GroupKeys.{condition_number, HasConditionGroup, IsConditionKey}
+use Rattle.falsified_clauses.proofs.Words.{Condition, condition_number, HasConditionGroup, IsConditionKey}
 use Rattle.falsified_clauses.proofs.KeyLaws.{adds_none, adds_within}
 use Rattle.falsified_clauses.proofs.falsified_clauses.FalsifiedClauses.condition_group.Goals as goal
 

@@ -1,5 +1,5 @@
 use Rattle.std.proofs.Common.{sym, subst}
-use Rattle.falsified_clauses.specs.Counts.{Counts, grouped_by}
+use Rattle.falsified_clauses.proofs.Words.{Counts, grouped_by}
 use Rattle.falsified_clauses.proofs.CountLaws.{counts_kept}
 use Rattle.falsified_clauses.proofs.FalsifiedLaws.{first_is}
 use Rattle.falsified_clauses.proofs.falsified_clauses.FalsifiedClauses.first.Goals as goal

@@ -1,5 +1,5 @@
 use Rattle.std.proofs.Common.{◌≡◌, ◌∙◌, length, sym, subst}
-use Rattle.falsified_clauses.specs.GroupKeys.{number_in}
+use Rattle.falsified_clauses.proofs.Words.{number_in}
 use Rattle.falsified_clauses.proofs.KeyLaws.{number_found, number_absent, made_number, made_there, adds_none, adds_made}
 use Rattle.falsified_clauses.proofs.falsified_clauses.FalsifiedClauses.group.Goals as goal
 

@@ -1,8 +1,6 @@
 use Rattle.std.proofs.Common.{[], false, length, sym, subst, ap, ◌∙◌}
 use Rattle.std.specs.List.{position}
-use Rattle.falsified_clauses.specs.Clauses.{counted}
-use Rattle.falsified_clauses.specs.Counts.{Counts}
-use Rattle.falsified_clauses.specs.GroupKeys.{same_key}
+use Rattle.falsified_clauses.proofs.Words.{counted, Counts, same_key}
 use Rattle.falsified_clauses.proofs.CountLaws.{counts_none}
 use Rattle.falsified_clauses.proofs.falsified_clauses.FalsifiedClauses.new.Goals as goal
 

@@ -1,12 +1,7 @@
 use Rattle.std.proofs.Common.{◌≡◌, ◌∙◌, sym, subst}
 use Rattle.std.specs.Prelude.{List}
-use Rattle.std.specs.List.{Contains}
-use Rattle.falsified_clauses.specs.declared.demand.Demand.{Demand}
-use Rattle.falsified_clauses.specs.declared.group_key.GroupKey.{GroupKey}
-use Rattle.falsified_clauses.specs.declared.group_key.GroupKey.TheVariants.{Parent}
-use Rattle.falsified_clauses.specs.Clauses.{counted_under}
-use Rattle.falsified_clauses.specs.GroupKeys.{numbers, numbers_in, keys_of, HasGroups, AddsOnly, IsConditionKey}
-use Rattle.falsified_clauses.specs.Counts.{Counts, grouped_by}
+use Rattle.falsified_clauses.proofs.Words.{AddsOnly, Contains, counted_under, Counts, Demand, grouped_by, GroupKey}
+use Rattle.falsified_clauses.proofs.Words.{HasGroups, IsConditionKey, keys_of, numbers, numbers_in, Parent}
 use Rattle.falsified_clauses.proofs.KeyLaws.{keeps_both, adds_both, adds_listed, adds_within}
 use Rattle.falsified_clauses.proofs.GroupLaws.{condition_kept, groups_are, has_parent, has_condition, has_rows}
 use Rattle.falsified_clauses.proofs.CountLaws.{counts_kept, ready_is}

@@ -1,5 +1,5 @@
 use Rattle.std.proofs.Common.{ap, ◌∙◌}
-use Rattle.falsified_clauses.specs.GroupIndex.{number_of}
+use Rattle.falsified_clauses.proofs.Words.{number_of}
 use Rattle.falsified_clauses.proofs.IndexLaws.{same_parents, same_conditions, same_sets, same_unions}
 use Rattle.falsified_clauses.proofs.group_index.GroupIndex.make_room.Goals as goal
 

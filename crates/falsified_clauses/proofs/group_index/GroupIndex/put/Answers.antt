@@ -1,6 +1,5 @@
 use Rattle.std.proofs.Common.{ap, ◌∙◌}
-use Rattle.falsified_clauses.specs.declared.group_key.GroupKey.TheVariants.{Parent, Condition, Rows}
-use Rattle.providers.specs.declared.requirement.Requirement.TheVariants.{Single, Union}
+use Rattle.falsified_clauses.proofs.Words.{Condition, Parent, Rows, Single, Union}
 use Rattle.falsified_clauses.proofs.IndexLaws.{tables, put_parent, put_condition, put_set, put_union, put_at}
 use Rattle.falsified_clauses.proofs.group_index.GroupIndex.put.Goals as goal
 

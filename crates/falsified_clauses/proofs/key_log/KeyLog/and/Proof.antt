@@ -3,10 +3,10 @@ use Rattle.falsified_clauses.proofs.ByHand.{split, join, fjoin, enter, alloc_all
 use Rattle.falsified_clauses.proofs.ByHand.{look_at, free_all, suffices, says, ends_at, owned, nothing, shape, Struct}
 use Rattle.falsified_clauses.proofs.ByHand.{Struct-Makes, vstruct, vnil, ftrue, flft, named, plain, RefOf, ShrRef}
 use Rattle.falsified_clauses.proofs.ByHand.{shr_vals, shr_Tells, yes, Stays, stay_dropped, Goes-dropped, walk_of}
-use Rattle.falsified_clauses.specs.contracts.key_log.KeyLog.and as f
 use Rattle.falsified_clauses.specs.contracts.key_log.KeyLog.{the_type as Log, the_row as LogRow}
 use Rattle.falsified_clauses.specs.contracts.group_key.GroupKey.{the_row as KeyRow}
 use Rattle.falsified_clauses.proofs.key_log.KeyLog.and.Statement.{statement}
+use Rattle.falsified_clauses.specs.contracts.key_log.KeyLog.and as f
 use Rattle.falsified_clauses.proofs.key_log.KeyLog.and.Code as code
 
 abbrev stayed : Stays f.ended.signature.params f.ended.kept

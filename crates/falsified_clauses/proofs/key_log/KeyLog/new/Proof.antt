@@ -2,9 +2,9 @@ use Rattle.falsified_clauses.proofs.ByHand.{[], ◌∷◌, refl, proved, ‵, ra
 use Rattle.falsified_clauses.proofs.ByHand.{fjoin, enter, alloc_all, pass_all, sets, agg, no_more, returns}
 use Rattle.falsified_clauses.proofs.ByHand.{look_at, free_all, suffices, says, ends_at, owned, nothing, shape}
 use Rattle.falsified_clauses.proofs.ByHand.{Struct, Struct-Makes, vstruct, vnil, ftrue, on_entry, walk_of}
-use Rattle.falsified_clauses.specs.contracts.key_log.KeyLog.new as f
 use Rattle.falsified_clauses.specs.contracts.key_log.KeyLog.{the_type as Log}
 use Rattle.falsified_clauses.proofs.key_log.KeyLog.new.Statement.{statement}
+use Rattle.falsified_clauses.specs.contracts.key_log.KeyLog.new as f
 use Rattle.falsified_clauses.proofs.key_log.KeyLog.new.Code as code
 
 pub new_spec : {M : Type 1} → statement M

@@ -1,9 +1,6 @@
 use Rattle.std.proofs.Common.{◌≡◌, ◌∙◌, true, sym, subst}
-use Rattle.watch_map.specs.ClauseList.{contents, literals_watched}
-use Rattle.resolvo_store.specs.Adding.{names_known}
-use Rattle.resolvo_store.specs.Answers.{added}
-use Rattle.resolvo_store.specs.Store.{Provider, gathered, stored_of, values}
-use Rattle.resolvo_store.specs.Lists.{HasMarks}
+use Rattle.resolvo_store.proofs.Words.{added, contents, HasMarks, literals_watched, names_known, stored_of, values}
+use Rattle.resolvo_store.specs.Store.{Provider, gathered}
 use Rattle.resolvo_store.proofs.CallerLaws.{store_in}
 use Rattle.resolvo_store.proofs.LearningLemmas.{step_added}
 use Rattle.resolvo_store.proofs.InvariantLemmas.{after_direct}
@@ -16,9 +13,8 @@ use Rattle.resolvo_store.proofs.store.ClauseStore.add.Goals as goal
 -- the provider's functions
 abbrev given : (g : Over) → g.row.D.Denot → Provider g.row.D-NameId.Denot g.row.D-SolvableId.Denot
 given g = gathered g.D.NameId.PartialEq.eq g.D.SolvableId.PartialEq.eq g.D.NameId.Slots.IdMap.is_too_large
-    g.D.SolvableId.Slots.IdMap.is_too_large
-    g.D.SolvableId.Set.IdSet.is_too_large g.D.NameId.SolverId.are_many g.D.Interner.universe
-    g.D.DependencyProvider.answers
+    g.D.SolvableId.Slots.IdMap.is_too_large g.D.SolvableId.Set.IdSet.is_too_large g.D.NameId.SolverId.are_many
+    g.D.Interner.universe g.D.DependencyProvider.answers
 
 pub add_clause-answer-requires : goal.add_clause-answer-requires
 add_clause-answer-requires g c =

@@ -1,5 +1,5 @@
 use Rattle.std.proofs.Common.{◌≡◌, ◌∙◌, ◌<◌, length, take, ap, arith, refl, rules, subst, sym}
-use Rattle.decisions.specs.Trail.{Entry, val}
+use Rattle.resolvo_store.proofs.Words.{Entry, val}
 use Rattle.resolvo_store.proofs.CountedLemmas.{follows_more, front_added, keeps_counted}
 use Rattle.resolvo_store.proofs.CallerLaws.{store_in}
 use Rattle.resolvo_store.proofs.InvariantLemmas.{after_entry}

@@ -1,16 +1,10 @@
 use Rattle.std.proofs.lemmas.Grind.{common_steps}
 use Rattle.std.proofs.Common.{◌≡◌, ◌<◌, ◌∙◌, sym, subst, length, true, arith}
-use Rattle.std.specs.Prelude.{◌&&◌, not, nat_lt}
+use Rattle.std.specs.Prelude.{◌&&◌, not}
 use Rattle.std.proofs.lemmas.Bool.Decides.{nat_tests}
-use Rattle.watch_map.specs.ClauseList.{contents}
-use Rattle.at_most_once.specs.NameTrackers.{tracker_of}
-use Rattle.resolvo_store.specs.Command.{AtMostOnce}
-use Rattle.resolvo_store.specs.Answers.{replied, tracked}
-use Rattle.resolvo_store.specs.Lists.{HasMarks}
-use Rattle.resolvo_store.specs.Outcome.{tracking}
-use Rattle.resolvo_store.specs.Step.{Step}
-use Rattle.resolvo_store.specs.Store.{Store, StoreState, Provider, store_of, gathered}
-use Rattle.resolvo_store.specs.Tracking.{is_helper_among}
+use Rattle.resolvo_store.proofs.Words.{AtMostOnce, contents, HasMarks, is_helper_among, nat_lt, replied, Step, Store}
+use Rattle.resolvo_store.proofs.Words.{store_of, StoreState, tracked, tracker_of, tracking}
+use Rattle.resolvo_store.specs.Store.{Provider, gathered}
 use Rattle.resolvo_store.proofs.AddingLemmas.{both, failed}
 use Rattle.resolvo_store.proofs.InvariantLemmas.{after_tracked}
 use Rattle.resolvo_store.proofs.PartOutcomes.{tracked_or_same, with_list}
@@ -24,9 +18,8 @@ use Rattle.resolvo_store.proofs.store.ClauseStore.at_most_once.Goals as goal
 -- the provider's functions
 abbrev given : (g : Over) → g.row.D.Denot → Provider g.row.D-NameId.Denot g.row.D-SolvableId.Denot
 given g = gathered g.D.NameId.PartialEq.eq g.D.SolvableId.PartialEq.eq g.D.NameId.Slots.IdMap.is_too_large
-    g.D.SolvableId.Slots.IdMap.is_too_large
-    g.D.SolvableId.Set.IdSet.is_too_large g.D.NameId.SolverId.are_many g.D.Interner.universe
-    g.D.DependencyProvider.answers
+    g.D.SolvableId.Slots.IdMap.is_too_large g.D.SolvableId.Set.IdSet.is_too_large g.D.NameId.SolverId.are_many
+    g.D.Interner.universe g.D.DependencyProvider.answers
 
 -- its laws
 abbrev lawful : (g : Over) (p : g.row.D.Denot) → IsLawful (given g p)

@@ -1,11 +1,7 @@
 use Rattle.std.proofs.Common.{◌≡◌, ◌∙◌, refl, sym, subst, true}
-use Rattle.resolvo_queue.specs.References.{references}
-use Rattle.resolvo_store.specs.QueueState.{queue_state_of}
-use Rattle.resolvo_store.specs.Command.{Bump}
-use Rattle.resolvo_store.specs.Answers.{done, replied}
-use Rattle.resolvo_store.specs.Step.{Step}
-use Rattle.resolvo_store.specs.Walks.{WalksNothing}
-use Rattle.resolvo_store.specs.Store.{Store, StoreState, Provider, store_of, gathered}
+use Rattle.resolvo_store.proofs.Words.{Bump, done, queue_state_of, references, replied, Step, Store, store_of}
+use Rattle.resolvo_store.proofs.Words.{StoreState, WalksNothing}
+use Rattle.resolvo_store.specs.Store.{Provider, gathered}
 use Rattle.resolvo_store.proofs.AddingLemmas.{step_grown, first_of_bump, always_said}
 use Rattle.resolvo_store.proofs.CallerLaws.{store_in}
 use Rattle.resolvo_store.proofs.CountedLemmas.{counted_still}
@@ -18,9 +14,8 @@ use Rattle.resolvo_store.proofs.store.ClauseStore.bump.Goals as goal
 -- the provider's functions
 abbrev given : (g : Over) → g.row.D.Denot → Provider g.row.D-NameId.Denot g.row.D-SolvableId.Denot
 given g = gathered g.D.NameId.PartialEq.eq g.D.SolvableId.PartialEq.eq g.D.NameId.Slots.IdMap.is_too_large
-    g.D.SolvableId.Slots.IdMap.is_too_large
-    g.D.SolvableId.Set.IdSet.is_too_large g.D.NameId.SolverId.are_many g.D.Interner.universe
-    g.D.DependencyProvider.answers
+    g.D.SolvableId.Slots.IdMap.is_too_large g.D.SolvableId.Set.IdSet.is_too_large g.D.NameId.SolverId.are_many
+    g.D.Interner.universe g.D.DependencyProvider.answers
 
 pub invariant_of-self : goal.invariant_of-self
 invariant_of-self g c =

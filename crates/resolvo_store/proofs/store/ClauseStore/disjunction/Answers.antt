@@ -1,13 +1,9 @@
 use Rattle.std.proofs.Common.{◌≡◌, ◌∙◌, refl, ap, sym, subst, true}
-use Rattle.std.specs.List.{list_all}
-use Rattle.std.specs.Prelude.{Bool, length, ◌&&◌, nat_lt}
-use Rattle.decisions.specs.Literals.{variable_of}
-use Rattle.resolvo_store.specs.Command.{Disjunction, DisjunctionIs}
-use Rattle.resolvo_store.specs.Answers.{replied}
-use Rattle.resolvo_store.specs.Lists.{stored_disjunctions}
-use Rattle.resolvo_store.specs.Refusals.{are_disjunctions_out}
-use Rattle.resolvo_store.specs.Step.{Step}
-use Rattle.resolvo_store.specs.Store.{StoreState, Provider, store_of, gathered}
+use Rattle.std.specs.Prelude.{Bool, length, ◌&&◌}
+use Rattle.resolvo_store.proofs.Words.{are_disjunctions_out, DisjunctionIs, list_all, nat_lt, replied, Step, store_of}
+use Rattle.resolvo_store.proofs.Words.{stored_disjunctions, StoreState, variable_of}
+use Rattle.resolvo_store.specs.Command.{Disjunction}
+use Rattle.resolvo_store.specs.Store.{Provider, gathered}
 use Rattle.resolvo_store.proofs.CallerLaws.{store_in}
 use Rattle.resolvo_store.proofs.AddingLemmas.{both, if_ok, step_grown, first_of_disjunction}
 use Rattle.resolvo_store.proofs.CountedLemmas.{follows_disjunction, keeps_counted}
@@ -20,9 +16,8 @@ use Rattle.resolvo_store.proofs.store.ClauseStore.disjunction.Goals as goal
 -- the provider's functions
 abbrev given : (g : Over) → g.row.D.Denot → Provider g.row.D-NameId.Denot g.row.D-SolvableId.Denot
 given g = gathered g.D.NameId.PartialEq.eq g.D.SolvableId.PartialEq.eq g.D.NameId.Slots.IdMap.is_too_large
-    g.D.SolvableId.Slots.IdMap.is_too_large
-    g.D.SolvableId.Set.IdSet.is_too_large g.D.NameId.SolverId.are_many g.D.Interner.universe
-    g.D.DependencyProvider.answers
+    g.D.SolvableId.Slots.IdMap.is_too_large g.D.SolvableId.Set.IdSet.is_too_large g.D.NameId.SolverId.are_many
+    g.D.Interner.universe g.D.DependencyProvider.answers
 
 pub invariant_of-self : goal.invariant_of-self
 invariant_of-self g c =

@@ -1,10 +1,8 @@
 use Rattle.std.proofs.Common.{◌≡◌, refl, sym, subst}
 use Rattle.std.specs.Prelude.{All, option_map}
-use Rattle.decisions.specs.Decisions.{values_in}
-use Rattle.resolvo_queue.specs.References.{CanWalk, literals_in, references, rows_in}
-use Rattle.resolvo_queue.specs.Scan.{first_falsified}
-use Rattle.resolvo_store.specs.Outcome.{falsified_clause}
-use Rattle.resolvo_store.specs.Store.{StoreState, Provider, store_of, gathered, stored_of}
+use Rattle.resolvo_store.proofs.Words.{CanWalk, falsified_clause, first_falsified, literals_in, references, rows_in}
+use Rattle.resolvo_store.proofs.Words.{store_of, stored_of, StoreState, values_in}
+use Rattle.resolvo_store.specs.Store.{Provider, gathered}
 use Rattle.resolvo_store.proofs.AskingLemmas.{can_walk, seen_by_store}
 use Rattle.resolvo_store.proofs.CallerLaws.{store_in}
 use Rattle.resolvo_store.proofs.store.ClauseStore.falsified.Given.{Over}
@@ -13,9 +11,8 @@ use Rattle.resolvo_store.proofs.store.ClauseStore.falsified.Goals as goal
 -- the provider's functions
 abbrev given : (g : Over) → g.row.D.Denot → Provider g.row.D-NameId.Denot g.row.D-SolvableId.Denot
 given g = gathered g.D.NameId.PartialEq.eq g.D.SolvableId.PartialEq.eq g.D.NameId.Slots.IdMap.is_too_large
-    g.D.SolvableId.Slots.IdMap.is_too_large
-    g.D.SolvableId.Set.IdSet.is_too_large g.D.NameId.SolverId.are_many g.D.Interner.universe
-    g.D.DependencyProvider.answers
+    g.D.SolvableId.Slots.IdMap.is_too_large g.D.SolvableId.Set.IdSet.is_too_large g.D.NameId.SolverId.are_many
+    g.D.Interner.universe g.D.DependencyProvider.answers
 
 pub falsified-requires-clause-walkable : goal.falsified-requires-clause-walkable
 falsified-requires-clause-walkable g c =

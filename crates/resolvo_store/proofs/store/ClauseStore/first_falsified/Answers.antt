@@ -1,12 +1,8 @@
 use Rattle.std.proofs.Common.{◌≡◌, ◌∙◌, ap, refl, sym, subst}
-use Rattle.std.specs.Prelude.{IfOk, option_map}
-use Rattle.falsified_clauses.specs.Falsified.{IsFirstFalsified}
-use Rattle.decisions.specs.Trail.{val}
-use Rattle.falsified_clauses.specs.Clauses.{counted}
-use Rattle.resolvo_queue.specs.Scan.{first_falsified}
-use Rattle.resolvo_store.specs.Counted.{clause_at, false_by, placed}
-use Rattle.resolvo_store.specs.Outcome.{falsified_clause}
-use Rattle.resolvo_store.specs.Store.{StoreState, Provider, store_of, gathered, stored_of}
+use Rattle.std.specs.Prelude.{option_map}
+use Rattle.resolvo_store.proofs.Words.{clause_at, counted, false_by, falsified_clause, first_falsified, IfOk}
+use Rattle.resolvo_store.proofs.Words.{IsFirstFalsified, placed, store_of, stored_of, StoreState, val}
+use Rattle.resolvo_store.specs.Store.{Provider, gathered}
 use Rattle.resolvo_store.proofs.AskingLemmas.{can_walk, seen_by_store}
 use Rattle.resolvo_store.proofs.CallerLaws.{store_in}
 use Rattle.resolvo_store.proofs.CountedScan.{first_counted}
@@ -16,9 +12,8 @@ use Rattle.resolvo_store.proofs.store.ClauseStore.first_falsified.Goals as goal
 -- the provider's functions
 abbrev given : (g : Over) → g.row.D.Denot → Provider g.row.D-NameId.Denot g.row.D-SolvableId.Denot
 given g = gathered g.D.NameId.PartialEq.eq g.D.SolvableId.PartialEq.eq g.D.NameId.Slots.IdMap.is_too_large
-    g.D.SolvableId.Slots.IdMap.is_too_large
-    g.D.SolvableId.Set.IdSet.is_too_large g.D.NameId.SolverId.are_many g.D.Interner.universe
-    g.D.DependencyProvider.answers
+    g.D.SolvableId.Slots.IdMap.is_too_large g.D.SolvableId.Set.IdSet.is_too_large g.D.NameId.SolverId.are_many
+    g.D.Interner.universe g.D.DependencyProvider.answers
 
 pub first_falsified-requires-clause-there : goal.first_falsified-requires-clause-there
 first_falsified-requires-clause-there g c = λ k d within. (let parts =

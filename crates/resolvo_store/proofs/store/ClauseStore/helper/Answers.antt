@@ -1,13 +1,7 @@
 use Rattle.std.proofs.Common.{◌≡◌, ◌∙◌, ◌++◌, ◌∷◌, [], length, refl, sym, subst, ap}
-use Rattle.typed_ids.specs.declared.error.StoreError.TheVariants.{UnknownId}
-use Rattle.variables.specs.declared.variable_origin.VariableOrigin.{VariableOrigin}
-use Rattle.variables.specs.Variables.{are_variables_out}
-use Rattle.resolvo_store.specs.Helpers.{is_helper_known}
-use Rattle.resolvo_store.specs.Command.{Helper, Refused, VariableIs}
-use Rattle.resolvo_store.specs.Answers.{replied}
-use Rattle.resolvo_store.specs.Outcome.{helper_origin}
-use Rattle.resolvo_store.specs.Step.{Step}
-use Rattle.resolvo_store.specs.Store.{StoreState, Provider, store_of, gathered}
+use Rattle.resolvo_store.proofs.Words.{are_variables_out, Helper, helper_origin, is_helper_known, Refused, replied}
+use Rattle.resolvo_store.proofs.Words.{Step, store_of, StoreState, UnknownId, VariableIs, VariableOrigin}
+use Rattle.resolvo_store.specs.Store.{Provider, gathered}
 use Rattle.std.specs.Prelude.{List}
 use Rattle.resolvo_store.proofs.AddingLemmas.{step_foreseen, step_grown, if_ok}
 use Rattle.resolvo_store.proofs.HelperLemmas.{helper_known_is, first_of_helper, first_of_unknown_helper}
@@ -21,9 +15,8 @@ use Rattle.resolvo_store.proofs.store.ClauseStore.helper.Goals as goal
 -- the provider's functions
 abbrev given : (g : Over) → g.row.D.Denot → Provider g.row.D-NameId.Denot g.row.D-SolvableId.Denot
 given g = gathered g.D.NameId.PartialEq.eq g.D.SolvableId.PartialEq.eq g.D.NameId.Slots.IdMap.is_too_large
-    g.D.SolvableId.Slots.IdMap.is_too_large
-    g.D.SolvableId.Set.IdSet.is_too_large g.D.NameId.SolverId.are_many g.D.Interner.universe
-    g.D.DependencyProvider.answers
+    g.D.SolvableId.Slots.IdMap.is_too_large g.D.SolvableId.Set.IdSet.is_too_large g.D.NameId.SolverId.are_many
+    g.D.Interner.universe g.D.DependencyProvider.answers
 
 pub returns-then-not-knows_helper-clause-step : goal.returns-then-not-knows_helper-clause-step
 returns-then-not-knows_helper-clause-step g c =

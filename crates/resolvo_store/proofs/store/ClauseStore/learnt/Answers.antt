@@ -1,11 +1,6 @@
 use Rattle.std.proofs.Common.{◌≡◌, ◌∙◌, sym, subst, true}
-use Rattle.std.specs.List.{list_all}
-use Rattle.std.specs.Prelude.{nat_lt}
-use Rattle.decisions.specs.Literals.{variable_of}
-use Rattle.watch_map.specs.ClauseList.{contents}
-use Rattle.resolvo_store.specs.Answers.{added}
+use Rattle.resolvo_store.proofs.Words.{added, contents, HasMarks, list_all, nat_lt, variable_of}
 use Rattle.resolvo_store.specs.Store.{Provider, gathered}
-use Rattle.resolvo_store.specs.Lists.{HasMarks}
 use Rattle.resolvo_store.proofs.CallerLaws.{store_in}
 use Rattle.resolvo_store.proofs.AddingLemmas.{first_of_learnt}
 use Rattle.resolvo_store.proofs.LearningLemmas.{step_learnt, not_empty}
@@ -18,9 +13,8 @@ use Rattle.resolvo_store.proofs.store.ClauseStore.learnt.Goals as goal
 -- the provider's functions
 abbrev given : (g : Over) → g.row.D.Denot → Provider g.row.D-NameId.Denot g.row.D-SolvableId.Denot
 given g = gathered g.D.NameId.PartialEq.eq g.D.SolvableId.PartialEq.eq g.D.NameId.Slots.IdMap.is_too_large
-    g.D.SolvableId.Slots.IdMap.is_too_large
-    g.D.SolvableId.Set.IdSet.is_too_large g.D.NameId.SolverId.are_many g.D.Interner.universe
-    g.D.DependencyProvider.answers
+    g.D.SolvableId.Slots.IdMap.is_too_large g.D.SolvableId.Set.IdSet.is_too_large g.D.NameId.SolverId.are_many
+    g.D.Interner.universe g.D.DependencyProvider.answers
 
 pub learn_clause-answer-requires : goal.learn_clause-answer-requires
 learn_clause-answer-requires g c = not_empty c.args.literals.now (sym c.is_bad_learnt.ensures

@@ -1,6 +1,6 @@
 use Rattle.std.proofs.Common.{◌≡◌, ◌∙◌, sym, subst, true}
-use Rattle.providers.specs.Provider.{knows_requirement}
-use Rattle.resolvo_store.specs.Store.{StoreState, store_of, gathered}
+use Rattle.resolvo_store.proofs.Words.{knows_requirement, store_of, StoreState}
+use Rattle.resolvo_store.specs.Store.{gathered}
 use Rattle.resolvo_store.proofs.LoadingLemmas.{loaded-now}
 use Rattle.resolvo_store.proofs.store.ClauseStore.load.Goals as goal
 

@@ -1,14 +1,12 @@
 use Rattle.std.proofs.Common.{◌≡◌, ◌∙◌, sym, ap, subst, Some, ℕ, List, true, refl}
 use Rattle.std.specs.Prelude.{option_map}
-use Rattle.providers.specs.Provider.{knows_requirement}
-use Rattle.resolvo_store.specs.Command.{Load, LoadedAs}
-use Rattle.resolvo_store.specs.Store.{StoreState, store_of, gathered, lists_of}
-use Rattle.resolvo_store.specs.Step.{IsAnswered}
+use Rattle.resolvo_store.proofs.Words.{IsAnswered, knows_requirement, lists_of, Load, LoadedAs, store_of, StoreState}
+use Rattle.resolvo_store.specs.Store.{gathered}
 use Rattle.resolvo_store.proofs.ListLemmas.{items-cloned, items_of}
 use Rattle.resolvo_store.proofs.LoadingLemmas.{step-known, loaded-again}
-use Rattle.resolvo_store.proofs.store.ClauseStore.load_copied.Goals as goal
 use Rattle.resolvo_store.proofs.store.ClauseStore.load_copied.Goals.{in-Some+in_ok-lists-in-Some}
 use Rattle.resolvo_store.proofs.store.ClauseStore.load_copied.Goals.{in-None+in_ok-lists-in-None}
+use Rattle.resolvo_store.proofs.store.ClauseStore.load_copied.Goals as goal
 
 pub returns-clause-step : goal.returns-clause-step
 returns-clause-step g c =

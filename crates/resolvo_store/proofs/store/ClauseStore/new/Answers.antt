@@ -1,11 +1,8 @@
 use Rattle.std.proofs.Common.{rules, refl, subst, sym, take, [], arith}
-use Rattle.watch_map.specs.ClauseList.{Clauses}
-use Rattle.resolvo_store.specs.QueueState.{queue_state_of}
-use Rattle.resolvo_store.specs.Counted.{AreCounted}
+use Rattle.resolvo_store.proofs.Words.{AreCounted, Clauses, IsConsistent, IsSound, lists_of_loaded, queue_state_of}
+use Rattle.resolvo_store.proofs.Words.{store_of, stored_disjunctions, StoreState}
 use Rattle.resolvo_store.proofs.CountedLemmas.{none_counted}
-use Rattle.resolvo_store.specs.Lists.{lists_of_loaded, stored_disjunctions, IsConsistent}
-use Rattle.resolvo_store.specs.Sound.{IsSound}
-use Rattle.resolvo_store.specs.Store.{StoreState, Provider, store_of, gathered}
+use Rattle.resolvo_store.specs.Store.{Provider, gathered}
 use Rattle.resolvo_store.proofs.PartOutcomes.{with_list, new_may_ask}
 use Rattle.resolvo_store.proofs.SoundSteps.{IsSound-new_store}
 use Rattle.resolvo_store.proofs.store.ClauseStore.new.Given.{Over}
@@ -14,9 +11,8 @@ use Rattle.resolvo_store.proofs.store.ClauseStore.new.Goals as goal
 -- the provider's functions
 abbrev given : (g : Over) → g.row.D.Denot → Provider g.row.D-NameId.Denot g.row.D-SolvableId.Denot
 given g = gathered g.D.NameId.PartialEq.eq g.D.SolvableId.PartialEq.eq g.D.NameId.Slots.IdMap.is_too_large
-    g.D.SolvableId.Slots.IdMap.is_too_large
-    g.D.SolvableId.Set.IdSet.is_too_large g.D.NameId.SolverId.are_many g.D.Interner.universe
-    g.D.DependencyProvider.answers
+    g.D.SolvableId.Slots.IdMap.is_too_large g.D.SolvableId.Set.IdSet.is_too_large g.D.NameId.SolverId.are_many
+    g.D.Interner.universe g.D.DependencyProvider.answers
 
 pub invariant_of-result : goal.invariant_of-result
 invariant_of-result g c =

@@ -1,18 +1,12 @@
 use Rattle.std.proofs.lemmas.Grind.{common_steps}
 use Rattle.std.proofs.Common.{◌≡◌, ◌∙◌, None, refl, sym, subst, ap, arith}
-use Rattle.std.specs.Prelude.{All, IfOk, OnOk, ◌↔◌, false, option_map}
-use Rattle.decisions.specs.Trail.{Trail, val}
-use Rattle.resolvo_queue.specs.Pick.{decided, pick, eligible, DecidesUnbeaten}
-use Rattle.resolvo_queue.specs.Queue.{HasTrail, StandsOn, values_of}
-use Rattle.resolvo_queue.specs.References.{CanWalk, references}
-use Rattle.resolvo_queue.specs.Scan.{scan, is_eligible, first_falsified}
+use Rattle.std.specs.Prelude.{All, ◌↔◌, false, option_map}
 use Rattle.resolvo_queue.proofs.Clauses.Callers.{values_of_entries}
-use Rattle.resolvo_store.specs.QueueState.{queue_state_of}
-use Rattle.resolvo_store.specs.Lists.{IsConsistent}
-use Rattle.resolvo_store.specs.Outcome.{falsified_clause, is_eligible_clause, offers, picked}
-use Rattle.resolvo_store.specs.Store.{StoreState, Provider, store_of, gathered, stored_of}
-use Rattle.resolvo_store.specs.Synced.{decisions_of}
-use Rattle.resolvo_store.specs.Walks.{WalksEachOnce, HasSynced}
+use Rattle.resolvo_store.proofs.Words.{CanWalk, decided, DecidesUnbeaten, decisions_of, eligible, falsified_clause}
+use Rattle.resolvo_store.proofs.Words.{first_falsified, HasSynced, HasTrail, IfOk, is_eligible, is_eligible_clause}
+use Rattle.resolvo_store.proofs.Words.{IsConsistent, offers, OnOk, pick, picked, queue_state_of, references, scan}
+use Rattle.resolvo_store.proofs.Words.{StandsOn, store_of, stored_of, StoreState, Trail, val, values_of, WalksEachOnce}
+use Rattle.resolvo_store.specs.Store.{Provider, gathered}
 use Rattle.resolvo_store.proofs.AskingLemmas.{can_walk, asked_as_store, asked_by_store}
 use Rattle.resolvo_store.proofs.CallerLaws.{store_in}
 use Rattle.resolvo_store.proofs.CountedLemmas.{counted_still}
@@ -25,9 +19,8 @@ use Rattle.resolvo_store.proofs.store.ClauseStore.next_decision.Goals as goal
 -- the provider's functions
 abbrev given : (g : Over) → g.row.D.Denot → Provider g.row.D-NameId.Denot g.row.D-SolvableId.Denot
 given g = gathered g.D.NameId.PartialEq.eq g.D.SolvableId.PartialEq.eq g.D.NameId.Slots.IdMap.is_too_large
-    g.D.SolvableId.Slots.IdMap.is_too_large
-    g.D.SolvableId.Set.IdSet.is_too_large g.D.NameId.SolverId.are_many g.D.Interner.universe
-    g.D.DependencyProvider.answers
+    g.D.SolvableId.Slots.IdMap.is_too_large g.D.SolvableId.Set.IdSet.is_too_large g.D.NameId.SolverId.are_many
+    g.D.Interner.universe g.D.DependencyProvider.answers
 
 pub sync-requires-clause-values : goal.sync-requires-clause-values
 sync-requires-clause-values g c key =

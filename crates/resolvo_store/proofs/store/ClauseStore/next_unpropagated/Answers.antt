@@ -1,5 +1,5 @@
 use Rattle.std.proofs.Common.{ap, refl}
-use Rattle.decisions.specs.Trail.{Trail, propagated}
+use Rattle.resolvo_store.proofs.Words.{propagated, Trail}
 use Rattle.resolvo_store.proofs.CallerLaws.{store_in}
 use Rattle.resolvo_store.proofs.CountedLemmas.{counted_still}
 use Rattle.resolvo_store.proofs.InvariantLemmas.{after_trail}

@@ -1,31 +1,18 @@
 use Rattle.std.proofs.lemmas.Grind.{common_steps}
 use Rattle.std.proofs.Common.{◌≡◌, ◌∙◌, ◌-◌, ◌^◌, refl, sym, subst, ap, length, true, false, arith, []}
-use Rattle.providers.specs.declared.requirement.Requirement.{Requirement}
-use Rattle.providers.specs.Requirement.{same_requirement}
-use Rattle.resolvo_queue.specs.WalkCounts.{owed}
-use Rattle.std.specs.Map.{lookup}
-use Rattle.std.specs.Prelude.{ℕ, Option, ◌⊎◌, OnOk, is_some, map, option_map, unwrap_or, ◌&&◌, nat_le, nat_lt}
-use Rattle.std.specs.Option.{option_map_or}
-use Rattle.typed_ids.specs.declared.error.StoreError.TheVariants.{UnknownId, NotLoaded, NegatesParent, TooManyClauses}
+use Rattle.std.specs.Prelude.{ℕ, Option, ◌⊎◌, map, option_map, ◌&&◌}
 use Rattle.std.proofs.lemmas.Bool.Decides.{nat_tests}
-use Rattle.watch_map.specs.ClauseList.{contents, literals_watched}
-use Rattle.decisions.specs.Literals.{Neg}
-use Rattle.providers.specs.Provider.{knows_requirement, sets_of}
-use Rattle.watch_map.specs.Watching.{is_literal_in}
-use Rattle.resolvo_queue.specs.Queue.{IsRegistered, StandsOn}
-use Rattle.resolvo_queue.specs.declared.requires_clause.RequiresClause.{RequiresClause}
-use Rattle.resolvo_queue.specs.References.{references}
-use Rattle.resolvo_store.specs.Answers.{added}
-use Rattle.resolvo_store.specs.QueueState.{queue_state_of}
-use Rattle.resolvo_store.specs.Command.{Requires, Refused}
-use Rattle.resolvo_store.specs.Lists.{HasMarks}
-use Rattle.resolvo_store.specs.Step.{Step}
-use Rattle.resolvo_store.specs.Walks.{OwesFirst}
-use Rattle.resolvo_store.specs.Store.{StoreState, Provider, store_of, gathered, stored_of, values}
+use Rattle.resolvo_queue.specs.Queue.{IsRegistered}
+use Rattle.resolvo_store.proofs.Words.{added, contents, HasMarks, is_literal_in, is_some, knows_requirement}
+use Rattle.resolvo_store.proofs.Words.{literals_watched, lookup, nat_le, nat_lt, Neg, NegatesParent, NotLoaded, OnOk}
+use Rattle.resolvo_store.proofs.Words.{option_map_or, owed, OwesFirst, queue_state_of, references, Refused, Requirement}
+use Rattle.resolvo_store.proofs.Words.{Requires, RequiresClause, same_requirement, sets_of, StandsOn, Step, store_of}
+use Rattle.resolvo_store.proofs.Words.{stored_of, StoreState, TooManyClauses, UnknownId, unwrap_or, values}
+use Rattle.resolvo_store.specs.Store.{Provider, gathered}
 use Rattle.resolvo_store.proofs.AddingLemmas.{as_asked, step_foreseen, first_of_requires}
-use Rattle.resolvo_store.proofs.LearningLemmas.{step_registered}
 use Rattle.resolvo_store.proofs.AddingLemmas.{first_of_unknown, first_of_unloaded, first_of_negating, first_of_full}
 use Rattle.resolvo_store.proofs.AddingLemmas.{all_known_is, each_known}
+use Rattle.resolvo_store.proofs.LearningLemmas.{step_registered}
 use Rattle.resolvo_store.proofs.AskingLemmas.{condition_seen}
 use Rattle.resolvo_store.proofs.CallerLaws.{store_in}
 use Rattle.resolvo_store.proofs.CountedLemmas.{counted_registered}
@@ -41,9 +28,8 @@ use Rattle.resolvo_store.proofs.store.ClauseStore.requires_clause.Goals as goal
 -- the provider's functions
 abbrev given : (g : Over) → g.row.D.Denot → Provider g.row.D-NameId.Denot g.row.D-SolvableId.Denot
 given g = gathered g.D.NameId.PartialEq.eq g.D.SolvableId.PartialEq.eq g.D.NameId.Slots.IdMap.is_too_large
-    g.D.SolvableId.Slots.IdMap.is_too_large
-    g.D.SolvableId.Set.IdSet.is_too_large g.D.NameId.SolverId.are_many g.D.Interner.universe
-    g.D.DependencyProvider.answers
+    g.D.SolvableId.Slots.IdMap.is_too_large g.D.SolvableId.Set.IdSet.is_too_large g.D.NameId.SolverId.are_many
+    g.D.Interner.universe g.D.DependencyProvider.answers
 
 pub returns-then-not-knows_required-clause-step : goal.returns-then-not-knows_required-clause-step
 returns-then-not-knows_required-clause-step g c =

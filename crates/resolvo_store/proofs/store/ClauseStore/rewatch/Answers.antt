@@ -1,14 +1,8 @@
 use Rattle.std.proofs.Common.{◌∙◌, refl, sym, subst, ap, []}
-use Rattle.std.specs.Prelude.{option_map, slice_get, unwrap_or}
-use Rattle.clauses.specs.Clauses.{StoredLiterals, literals_of}
-use Rattle.watch_map.specs.Watching.{is_literal_in}
-use Rattle.watch_map.specs.ClauseList.{Clauses, contents}
-use Rattle.typed_ids.specs.declared.error.StoreError.TheVariants.{BadWatch}
-use Rattle.resolvo_store.specs.Command.{Rewatch, Done, Refused}
-use Rattle.resolvo_store.specs.Lists.{HasMarks}
-use Rattle.resolvo_store.specs.Answers.{done}
-use Rattle.resolvo_store.specs.Step.{Step}
-use Rattle.resolvo_store.specs.Store.{StoreState, Provider, store_of, gathered}
+use Rattle.std.specs.Prelude.{option_map, slice_get}
+use Rattle.resolvo_store.proofs.Words.{BadWatch, Clauses, contents, Done, done, HasMarks, is_literal_in, literals_of}
+use Rattle.resolvo_store.proofs.Words.{Refused, Rewatch, Step, store_of, StoredLiterals, StoreState, unwrap_or}
+use Rattle.resolvo_store.specs.Store.{Provider, gathered}
 use Rattle.resolvo_store.proofs.AddingLemmas.{first_of_rewatch, step_foreseen, without_literal, step_rewatched}
 use Rattle.resolvo_store.proofs.AddingLemmas.{step_unmoved, err_replied}
 use Rattle.resolvo_store.proofs.CallerLaws.{store_in}
@@ -22,9 +16,8 @@ use Rattle.resolvo_store.proofs.store.ClauseStore.rewatch.Goals as goal
 -- the provider's functions
 abbrev given : (g : Over) → g.row.D.Denot → Provider g.row.D-NameId.Denot g.row.D-SolvableId.Denot
 given g = gathered g.D.NameId.PartialEq.eq g.D.SolvableId.PartialEq.eq g.D.NameId.Slots.IdMap.is_too_large
-    g.D.SolvableId.Slots.IdMap.is_too_large
-    g.D.SolvableId.Set.IdSet.is_too_large g.D.NameId.SolverId.are_many g.D.Interner.universe
-    g.D.DependencyProvider.answers
+    g.D.SolvableId.Slots.IdMap.is_too_large g.D.SolvableId.Set.IdSet.is_too_large g.D.NameId.SolverId.are_many
+    g.D.Interner.universe g.D.DependencyProvider.answers
 
 pub invariant_of-self : goal.invariant_of-self
 invariant_of-self g c =

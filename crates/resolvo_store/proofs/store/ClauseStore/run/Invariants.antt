@@ -1,7 +1,6 @@
 use Rattle.std.proofs.Common.{◌≡◌, ◌≤◌, take, length, map, vec_len, vec_capacity}
-use Rattle.resolvo_store.specs.Command.{command_of, reply_of}
-use Rattle.resolvo_store.specs.Store.{Store, StoreState, store_of, gathered}
-use Rattle.resolvo_store.specs.Step.{Run}
+use Rattle.resolvo_store.proofs.Words.{command_of, reply_of, Run, Store, store_of, StoreState}
+use Rattle.resolvo_store.specs.Store.{gathered}
 use Rattle.resolvo_store.proofs.store.ClauseStore.run.Given as goal
 
 -- the abstract store

@@ -1,16 +1,11 @@
 use Rattle.std.proofs.Common.{◌≡◌, ◌∙◌, length, take, refl, sym, subst, ap, arith, rules, true, []}
 use Rattle.std.specs.Prelude.{ℕ, Option, Result}
 use Rattle.std.proofs.lemmas.Bool.Decides.{nat_tests}
-use Rattle.typed_ids.specs.declared.error.StoreError.{StoreError}
-use Rattle.clauses.specs.Clauses.{StoredLiterals}
-use Rattle.watch_map.specs.ClauseList.{contents, watched_by}
-use Rattle.watch_map.specs.Saturation.{literals_from, WatchOwn}
-use Rattle.watch_map.specs.Marks.{AreMarks}
-use Rattle.resolvo_store.specs.Command.{Saturate}
-use Rattle.resolvo_store.specs.Answers.{conflict, replied}
-use Rattle.resolvo_store.specs.Refusals.{is_level}
-use Rattle.resolvo_store.specs.Step.{Step}
-use Rattle.resolvo_store.specs.Store.{StoreState, Provider, store_of, gathered}
+use Rattle.watch_map.specs.ClauseList.{watched_by}
+use Rattle.watch_map.specs.Saturation.{WatchOwn}
+use Rattle.resolvo_store.proofs.Words.{AreMarks, conflict, contents, is_level, literals_from, replied, Saturate, Step}
+use Rattle.resolvo_store.proofs.Words.{store_of, StoredLiterals, StoreError, StoreState}
+use Rattle.resolvo_store.specs.Store.{Provider, gathered}
 use Rattle.resolvo_store.proofs.CountedLemmas.{follows_more, front_of, keeps_counted}
 use Rattle.resolvo_store.proofs.CallerLaws.{store_in, done_settles, done_unfalsified}
 use Rattle.resolvo_store.proofs.ListLemmas.{literals-kept}
@@ -21,9 +16,8 @@ use Rattle.resolvo_store.proofs.store.ClauseStore.saturate.Goals as goal
 -- the provider's functions
 abbrev given : (g : Over) → g.row.D.Denot → Provider g.row.D-NameId.Denot g.row.D-SolvableId.Denot
 given g = gathered g.D.NameId.PartialEq.eq g.D.SolvableId.PartialEq.eq g.D.NameId.Slots.IdMap.is_too_large
-    g.D.SolvableId.Slots.IdMap.is_too_large
-    g.D.SolvableId.Set.IdSet.is_too_large g.D.NameId.SolverId.are_many g.D.Interner.universe
-    g.D.DependencyProvider.answers
+    g.D.SolvableId.Slots.IdMap.is_too_large g.D.SolvableId.Set.IdSet.is_too_large g.D.NameId.SolverId.are_many
+    g.D.Interner.universe g.D.DependencyProvider.answers
 
 pub saturate-requires-clause-marks : goal.saturate-requires-clause-marks
 saturate-requires-clause-marks g c =

@@ -1,10 +1,7 @@
 use Rattle.std.proofs.Common.{refl, subst}
-use Rattle.resolvo_queue.specs.References.{references}
+use Rattle.resolvo_store.proofs.Words.{queue_state_of, references, StoreState, WalksNothing}
 use Rattle.resolvo_store.proofs.CountedLemmas.{counted_still}
 use Rattle.resolvo_store.proofs.InvariantLemmas.{after_question}
-use Rattle.resolvo_store.specs.QueueState.{queue_state_of}
-use Rattle.resolvo_store.specs.Store.{StoreState}
-use Rattle.resolvo_store.specs.Walks.{WalksNothing}
 use Rattle.resolvo_store.proofs.WalkLemmas.{walks_still}
 use Rattle.resolvo_store.proofs.store.ClauseStore.set_standard.Goals as goal
 

@@ -1,22 +1,15 @@
 use Rattle.std.proofs.lemmas.Grind.{common_steps}
 use Rattle.std.proofs.Common.{◌≡◌, ◌∷◌, ◌++◌, [], ◌∙◌, sym, ap, refl, subst, None, map, take, true, false, arith}
-use Rattle.std.specs.Map.{lookup}
 use Rattle.std.specs.Prelude.{All}
 use Rattle.std.proofs.lemmas.List.Elements.{All-take}
-use Rattle.providers.specs.declared.requirement.Requirement.{Requirement}
-use Rattle.providers.specs.Requirement.{same_requirement}
-use Rattle.providers.specs.Provider.{sets_of}
-use Rattle.variables.specs.Variables.{interned_variable}
-use Rattle.solver_cache.specs.Cache.{sorted_of_set, sorted_of}
 use Rattle.solver_cache.proofs.CacheLemmas.{handed_on}
-use Rattle.resolvo_store.specs.Command.{Load}
 use Rattle.falsified_clauses.proofs.Laws.{counts_lists}
-use Rattle.resolvo_store.specs.Counted.{AreCounted}
+use Rattle.resolvo_store.proofs.Words.{AreCounted, HasMarks, interned_variable, IsConsistent, lacks_ids}
+use Rattle.resolvo_store.proofs.Words.{lists_of_loaded, Load, lookup, may_be_refused, origins_loaded, Requirement}
+use Rattle.resolvo_store.proofs.Words.{same_requirement, sets_of, sorted_of, sorted_of_set, Store, store_of, StoreState}
+use Rattle.resolvo_store.proofs.Words.{variables_loaded}
 use Rattle.resolvo_store.proofs.CountedLemmas.{keeps_counted}
-use Rattle.resolvo_store.specs.Lists.{lists_of_loaded, IsConsistent, HasMarks}
-use Rattle.resolvo_store.specs.Outcome.{origins_loaded, variables_loaded}
-use Rattle.resolvo_store.specs.Step.{lacks_ids, may_be_refused}
-use Rattle.resolvo_store.specs.Store.{Store, Provider, StoreState, store_of, gathered}
+use Rattle.resolvo_store.specs.Store.{Provider, gathered}
 use Rattle.resolvo_store.proofs.LoadedInvariants.{after_variables, after_load, store_with}
 use Rattle.resolvo_store.proofs.CallerLaws.{store_in, left_of}
 use Rattle.resolvo_store.proofs.KnownLemmas.{IsLawful, IsKnownSolvable, all_known}
@@ -29,9 +22,8 @@ use Rattle.resolvo_store.proofs.store.ClauseStore.store_candidates.Goals as goal
 -- the provider's functions
 abbrev given : (g : Over) → g.row.D.Denot → Provider g.row.D-NameId.Denot g.row.D-SolvableId.Denot
 given g = gathered g.D.NameId.PartialEq.eq g.D.SolvableId.PartialEq.eq g.D.NameId.Slots.IdMap.is_too_large
-    g.D.SolvableId.Slots.IdMap.is_too_large
-    g.D.SolvableId.Set.IdSet.is_too_large g.D.NameId.SolverId.are_many g.D.Interner.universe
-    g.D.DependencyProvider.answers
+    g.D.SolvableId.Slots.IdMap.is_too_large g.D.SolvableId.Set.IdSet.is_too_large g.D.NameId.SolverId.are_many
+    g.D.Interner.universe g.D.DependencyProvider.answers
 
 -- its laws
 abbrev lawful : (g : Over) (p : g.row.D.Denot) → IsLawful (given g p)

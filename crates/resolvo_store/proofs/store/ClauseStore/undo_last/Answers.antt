@@ -1,12 +1,7 @@
 use Rattle.std.proofs.Common.{◌≡◌, ◌∙◌, ◌-◌, length, ap, arith, refl, subst, sym}
 use Rattle.std.proofs.lemmas.Grind.{common_steps}
-use Rattle.decisions.specs.Trail.{Trail, undo_last}
-use Rattle.resolvo_store.specs.QueueState.{queue_state_of}
-use Rattle.resolvo_store.specs.Counted.{AreCounted}
+use Rattle.resolvo_store.proofs.Words.{AreCounted, HasMarks, queue_state_of, StoreState, taken_back, Trail, undo_last}
 use Rattle.resolvo_store.proofs.CountedLemmas.{keeps_counted}
-use Rattle.resolvo_store.specs.Lists.{HasMarks}
-use Rattle.resolvo_store.specs.Store.{StoreState}
-use Rattle.resolvo_store.specs.Walks.{taken_back}
 use Rattle.resolvo_store.proofs.CallerLaws.{store_in}
 use Rattle.resolvo_store.proofs.InvariantLemmas.{after_trail}
 use Rattle.resolvo_store.proofs.MarkedLaws.{marks_cut}

@@ -1,11 +1,7 @@
 use Rattle.std.proofs.Common.{◌≡◌, ◌∙◌, length, ap, refl, subst, sym}
-use Rattle.decisions.specs.Trail.{Trail, undo_until, entries_until}
-use Rattle.resolvo_store.specs.QueueState.{queue_state_of}
-use Rattle.resolvo_store.specs.Counted.{AreCounted}
+use Rattle.resolvo_store.proofs.Words.{AreCounted, entries_until, HasMarks, queue_state_of, StoreState, taken_back}
+use Rattle.resolvo_store.proofs.Words.{Trail, undo_until}
 use Rattle.resolvo_store.proofs.CountedLemmas.{keeps_counted}
-use Rattle.resolvo_store.specs.Lists.{HasMarks}
-use Rattle.resolvo_store.specs.Store.{StoreState}
-use Rattle.resolvo_store.specs.Walks.{taken_back}
 use Rattle.resolvo_store.proofs.CallerLaws.{store_in}
 use Rattle.resolvo_store.proofs.InvariantLemmas.{after_trail}
 use Rattle.resolvo_store.proofs.MarkedLaws.{marks_cut}

@@ -1,7 +1,6 @@
 use Rattle.std.proofs.Common.{◌≡◌, ◌∙◌, sym, subst, true, length}
-use Rattle.std.specs.Prelude.{IfOk, nat_lt}
-use Rattle.decisions.specs.Literals.{variable_of}
-use Rattle.resolvo_store.specs.Store.{StoreState, Provider, store_of, gathered}
+use Rattle.resolvo_store.proofs.Words.{IfOk, nat_lt, store_of, StoreState, variable_of}
+use Rattle.resolvo_store.specs.Store.{Provider, gathered}
 use Rattle.resolvo_store.proofs.AddingLemmas.{step_asked}
 use Rattle.resolvo_store.proofs.store.ClauseStore.watchers.Given.{Over}
 use Rattle.resolvo_store.proofs.store.ClauseStore.watchers.Goals as goal
@@ -9,9 +8,8 @@ use Rattle.resolvo_store.proofs.store.ClauseStore.watchers.Goals as goal
 -- the provider's functions
 abbrev given : (g : Over) → g.row.D.Denot → Provider g.row.D-NameId.Denot g.row.D-SolvableId.Denot
 given g = gathered g.D.NameId.PartialEq.eq g.D.SolvableId.PartialEq.eq g.D.NameId.Slots.IdMap.is_too_large
-    g.D.SolvableId.Slots.IdMap.is_too_large
-    g.D.SolvableId.Set.IdSet.is_too_large g.D.NameId.SolverId.are_many g.D.Interner.universe
-    g.D.DependencyProvider.answers
+    g.D.SolvableId.Slots.IdMap.is_too_large g.D.SolvableId.Set.IdSet.is_too_large g.D.NameId.SolverId.are_many
+    g.D.Interner.universe g.D.DependencyProvider.answers
 
 pub returns-clause-step : goal.returns-clause-step
 returns-clause-step g c =

@@ -1,7 +1,6 @@
 use Rattle.std.proofs.Common.{◌≡◌, ◌∙◌, ◌+◌, ◌++◌, ◌∷◌, [], ap, subst, sym, take, Some}
 use Rattle.std.specs.Prelude.{ℕ, slice_get}
-use Rattle.falsified_clauses.specs.Clauses.{PlacedDemand, counted}
-use Rattle.resolvo_store.specs.Counted.{Counting, Follows, demand_of, no_false, placed}
+use Rattle.resolvo_store.proofs.Words.{counted, Counting, demand_of, Follows, no_false, placed, PlacedDemand}
 use Rattle.resolvo_store.proofs.CountedLemmas.{keeps_counted, one_counted}
 use Rattle.resolvo_store.proofs.store.counting.count_next.Goals as goal
 

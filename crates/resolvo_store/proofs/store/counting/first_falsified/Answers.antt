@@ -1,7 +1,6 @@
 use Rattle.std.proofs.Common.{◌≡◌, ◌∙◌, ap, refl, subst, sym, length, arith}
 use Rattle.std.proofs.lemmas.Bool.Decides.{nat_tests}
-use Rattle.falsified_clauses.specs.Clauses.{counted}
-use Rattle.resolvo_store.specs.Counted.{AreCounted, Counting, false_by, no_false, placed}
+use Rattle.resolvo_store.proofs.Words.{AreCounted, counted, Counting, false_by, no_false, placed}
 use Rattle.resolvo_store.proofs.CountedLemmas.{all_counted, counts_all, keeps_counted}
 use Rattle.resolvo_store.proofs.store.counting.first_falsified.Goals as goal
 

@@ -1,5 +1,5 @@
 use Rattle.std.specs.Prelude.{◌≡◌, ◌-◌, length}
-use Rattle.resolvo_store.specs.Counted.{AreCounted}
+use Rattle.resolvo_store.proofs.Words.{AreCounted}
 use Rattle.resolvo_store.proofs.store.counting.first_falsified.Given as goal
 
 abbrev pub invariant-loop-counters : goal.invariant-loop-counters

@@ -1,10 +1,7 @@
 use Rattle.std.proofs.Common.{◌≡◌, ◌∙◌, sym, ap, rules, Some, slice_get, option_map, []}
-use Rattle.std.specs.Prelude.{find, is_some, unwrap_or}
-use Rattle.clauses.specs.Clauses.{literals_of, same_literal}
-use Rattle.clauses.specs.Stored.{stored_in}
-use Rattle.watch_map.specs.ClauseList.{contents}
-use Rattle.watch_map.specs.Watching.{is_literal_in}
 use Rattle.watch_map.proofs.LiteralLists.{found_any}
+use Rattle.resolvo_store.proofs.Words.{contents, find, is_literal_in, is_some, literals_of, same_literal, stored_in}
+use Rattle.resolvo_store.proofs.Words.{unwrap_or}
 use Rattle.resolvo_store.proofs.store.watching.has_literal.Goals as goal
 
 pub returns : goal.returns

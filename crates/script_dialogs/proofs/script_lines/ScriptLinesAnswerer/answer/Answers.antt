@@ -20,9 +20,8 @@ returns-in-Commands-clause-answered g c =
     let ids = ids_at g.D.NameId.DenseIndex.limit g.D.NameId.DenseIndex.id_at g.D.SolvableId.DenseIndex.limit
     g.D.SolvableId.DenseIndex.id_at in
     let functions = gathered g.D.NameId.PartialEq.eq g.D.SolvableId.PartialEq.eq g.D.NameId.Slots.IdMap.is_too_large
-    g.D.SolvableId.Slots.IdMap.is_too_large
-    g.D.SolvableId.Set.IdSet.is_too_large g.D.NameId.SolverId.are_many g.D.Interner.universe
-    g.D.DependencyProvider.answers in
+    g.D.SolvableId.Slots.IdMap.is_too_large g.D.SolvableId.Set.IdSet.is_too_large g.D.NameId.SolverId.are_many
+    g.D.Interner.universe g.D.DependencyProvider.answers in
     let store = store_of functions g.D.NameId.Scores.IdMap.value_at in
     command_answered ids store c.args.said (Unit {0}) c.args.text.now.items c.obey_line.new.waiting.items
     c.in-Commands.store c.obey_line.new.store
@@ -34,9 +33,8 @@ returns-in-Commands-clause-unreadable g c =
     let ids = ids_at g.D.NameId.DenseIndex.limit g.D.NameId.DenseIndex.id_at g.D.SolvableId.DenseIndex.limit
     g.D.SolvableId.DenseIndex.id_at in
     let functions = gathered g.D.NameId.PartialEq.eq g.D.SolvableId.PartialEq.eq g.D.NameId.Slots.IdMap.is_too_large
-    g.D.SolvableId.Slots.IdMap.is_too_large
-    g.D.SolvableId.Set.IdSet.is_too_large g.D.NameId.SolverId.are_many g.D.Interner.universe
-    g.D.DependencyProvider.answers in
+    g.D.SolvableId.Slots.IdMap.is_too_large g.D.SolvableId.Set.IdSet.is_too_large g.D.NameId.SolverId.are_many
+    g.D.Interner.universe g.D.DependencyProvider.answers in
     let store = store_of functions g.D.NameId.Scores.IdMap.value_at in
     command_unreadable ids store c.args.said (Unit {0}) c.args.text.now.items c.obey_line.new.waiting.items
     c.in-Commands.store c.obey_line.new.store
@@ -47,9 +45,8 @@ returns-then-begins-clause-answered g c =
     let ids = ids_at g.D.NameId.DenseIndex.limit g.D.NameId.DenseIndex.id_at g.D.SolvableId.DenseIndex.limit
     g.D.SolvableId.DenseIndex.id_at in
     let functions = gathered g.D.NameId.PartialEq.eq g.D.SolvableId.PartialEq.eq g.D.NameId.Slots.IdMap.is_too_large
-    g.D.SolvableId.Slots.IdMap.is_too_large
-    g.D.SolvableId.Set.IdSet.is_too_large g.D.NameId.SolverId.are_many g.D.Interner.universe
-    g.D.DependencyProvider.answers in
+    g.D.SolvableId.Slots.IdMap.is_too_large g.D.SolvableId.Set.IdSet.is_too_large g.D.NameId.SolverId.are_many
+    g.D.Interner.universe g.D.DependencyProvider.answers in
     let store = store_of functions g.D.NameId.Scores.IdMap.value_at in
     begin_answered ids (λ (p : Packages). functions (g.D.OverPackages.made_of p)) store c.args.said
     c.args.text.now.items c.args.self.now.stage

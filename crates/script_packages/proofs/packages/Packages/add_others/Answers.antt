@@ -1,10 +1,8 @@
 use Rattle.std.proofs.Common.{◌≡◌, ◌+◌, ◌∙◌, Some, ap, sym, length, rules, arith}
 use Rattle.std.proofs.lemmas.List.{length-append, length-map}
-use Rattle.std.specs.Prelude.{option_and_then}
-use Rattle.std.specs.String.{string_bytes}
-use Rattle.script_packages.specs.Versions.{version_of}
-use Rattle.script_packages.specs.Listing.{Listing, listing_of, listed_versions, with_version}
-use Rattle.script_text.specs.Words.{words}
+use Rattle.script_packages.proofs.Words.{listed_versions, Listing, listing_of, option_and_then, string_bytes}
+use Rattle.script_packages.proofs.Words.{version_of, words}
+use Rattle.script_packages.specs.Listing.{with_version}
 use Rattle.script_packages.proofs.packages.Packages.add_others.Goals as goal
 
 pub loop-word-preserved : goal.loop-word-preserved

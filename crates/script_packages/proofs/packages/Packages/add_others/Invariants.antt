@@ -1,6 +1,5 @@
 use Rattle.std.proofs.Common.{◌≡◌, ◌-◌, ◌<◌, length}
-use Rattle.script_packages.specs.Listing.{listing_of, listed_versions}
-use Rattle.script_text.specs.Words.{words}
+use Rattle.script_packages.proofs.Words.{listed_versions, listing_of, words}
 use Rattle.script_packages.proofs.packages.Packages.add_others.Given as goal
 
 abbrev pub invariant-loop-word : goal.invariant-loop-word

@@ -1,8 +1,5 @@
 use Rattle.std.proofs.Common.{◌≡◌, ◌∙◌, ap, ◌++◌, ◌∷◌, [], List, ℕ, rules}
-use Rattle.indexmap.specs.IndexMap.{insert_entry}
-use Rattle.script_packages.specs.declared.packages.Span.{Span}
-use Rattle.script_packages.specs.Listing.{Listing, listing_of}
-use Rattle.script_packages.specs.Packages.{same_id}
+use Rattle.script_packages.proofs.Words.{insert_entry, Listing, listing_of, same_id, Span}
 use Rattle.script_packages.proofs.Spans.{inserted_span}
 use Rattle.script_packages.proofs.packages.Packages.add_span.Goals as goal
 

@@ -1,6 +1,5 @@
 use Rattle.std.proofs.Common.{◌≡◌, length}
-use Rattle.script_text.specs.Words.{words}
-use Rattle.script_packages.specs.Listing.{are_sets}
+use Rattle.script_packages.proofs.Words.{are_sets, words}
 use Rattle.script_packages.proofs.packages.Packages.are_sets.Given as goal
 
 abbrev pub invariant-loop-word : goal.invariant-loop-word

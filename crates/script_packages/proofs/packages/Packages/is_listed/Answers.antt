@@ -1,10 +1,7 @@
 use Rattle.std.proofs.Common.{◌≡◌, [], Some, true, map, get_or, length, arith, below_more, ◌∙◌, sym, ap, subst}
 use Rattle.std.proofs.lemmas.List.{length-map}
 use Rattle.std.proofs.lemmas.Option.{slice_get_within}
-use Rattle.std.specs.Prelude.{slice_get}
-use Rattle.std.specs.Str.{bytes_eq}
-use Rattle.std.specs.String.{string_bytes}
-use Rattle.script_packages.specs.Listing.{listing_of, has_span}
+use Rattle.script_packages.proofs.Words.{bytes_eq, has_span, listing_of, slice_get, string_bytes}
 use Rattle.script_packages.proofs.Names.{name_at, not_below, listed_here, unlisted}
 use Rattle.script_packages.proofs.packages.Packages.is_listed.Goals as goal
 

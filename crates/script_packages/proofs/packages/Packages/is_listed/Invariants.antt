@@ -1,6 +1,5 @@
 use Rattle.std.proofs.Common.{◌≡◌, ◌<◌, ◌≤◌, ℕ, [], false, map, get_or, length}
-use Rattle.std.specs.Str.{bytes_eq}
-use Rattle.std.specs.String.{string_bytes}
+use Rattle.script_packages.proofs.Words.{bytes_eq, string_bytes}
 use Rattle.script_packages.proofs.packages.Packages.is_listed.Given as goal
 
 abbrev pub invariant-loop-index : goal.invariant-loop-index

@@ -1,6 +1,5 @@
 use Rattle.std.proofs.Common.{sym}
-use Rattle.std.specs.String.{string_bytes}
-use Rattle.script_packages.specs.Listing.{listing_of}
+use Rattle.script_packages.proofs.Words.{listing_of, string_bytes}
 use Rattle.script_packages.proofs.Found.{found_place, found_there, named_again}
 use Rattle.script_packages.proofs.packages.Packages.known_or_new.Goals as goal
 

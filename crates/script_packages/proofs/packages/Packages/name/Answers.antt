@@ -1,13 +1,9 @@
 use Rattle.std.proofs.Common.{ℕ, List, refl, ◌∙◌, ap, map, rules}
 use Rattle.std.proofs.lemmas.Result.{IfOk-weaker, on_ok_weaker}
-use Rattle.std.specs.Prelude.{◌≡◌, IfOk, OnOk}
-use Rattle.std.specs.Str.{bytes_eq}
-use Rattle.std.specs.String.{string_bytes, string_eq}
-use Rattle.package_pool.specs.Interned.{interned}
-use Rattle.package_pool.specs.Pool.{Lists}
+use Rattle.std.specs.Prelude.{◌≡◌}
 use Rattle.package_pool.proofs.InternedLemmas.{place_by_view, interned_by_view}
-use Rattle.script_packages.specs.declared.packages.VersionRange.{VersionRange}
-use Rattle.script_packages.specs.Listing.{Listing, listing_of, named, name_number}
+use Rattle.script_packages.proofs.Words.{bytes_eq, IfOk, interned, Listing, listing_of, Lists, name_number, named, OnOk}
+use Rattle.script_packages.proofs.Words.{string_bytes, string_eq, VersionRange}
 use Rattle.script_packages.proofs.packages.Packages.name.Goals as goal
 
 pub returns-clause-number : goal.returns-clause-number

@@ -1,7 +1,5 @@
 use Rattle.std.proofs.Common.{◌≡◌, ◌<◌, [], length}
-use Rattle.std.specs.Prelude.{All}
-use Rattle.script_packages.specs.Listing.{listed_sets}
-use Rattle.script_text.specs.Words.{words}
+use Rattle.script_packages.proofs.Words.{All, listed_sets, words}
 use Rattle.script_packages.proofs.packages.Packages.sets.Given as goal
 
 abbrev pub invariant-loop-word : goal.invariant-loop-word

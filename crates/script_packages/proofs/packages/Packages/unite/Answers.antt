@@ -1,6 +1,5 @@
 use Rattle.std.proofs.Common.{◌<◌, length, sym, ◌∙◌, subst}
-use Rattle.std.specs.Prelude.{All}
-use Rattle.typed_ids.specs.declared.version_set_id.VersionSetId.{VersionSetId}
+use Rattle.script_packages.proofs.Words.{All, VersionSetId}
 use Rattle.script_packages.proofs.packages.Packages.unite.Goals as goal
 
 pub intern_version_set_union-requires : goal.intern_version_set_union-requires

@@ -1,7 +1,5 @@
 use Rattle.std.proofs.Common.{◌≡◌, ◌∙◌, ◌++◌, ◌∷◌, [], sym, true, false, rules}
-use Rattle.std.specs.Prelude.{is_some}
-use Rattle.std.specs.Map.{lookup, set_value}
-use Rattle.script_packages.specs.Packages.{same_id}
+use Rattle.script_packages.proofs.Words.{is_some, lookup, same_id, set_value}
 use Rattle.script_packages.proofs.Spans.{inserted_span, replaced_span}
 use Rattle.script_packages.proofs.span_map.SpanMap.insert_copy.Goals as goal
 

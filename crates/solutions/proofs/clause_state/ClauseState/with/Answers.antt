@@ -1,5 +1,5 @@
 use Rattle.std.proofs.Common.{◌≡◌, ◌∙◌, false, subst, IfSome, rules}
-use Rattle.solutions.specs.Clauses.{is_true}
+use Rattle.solutions.proofs.Words.{is_true}
 use Rattle.solutions.proofs.ClauseStateLemmas.{state_without}
 use Rattle.solutions.proofs.clause_state.ClauseState.with.Goals as goal
 

@@ -1,5 +1,5 @@
 use Rattle.std.proofs.Common.{subst}
-use Rattle.solutions.specs.Clauses.{AreSatisfied, Follows}
+use Rattle.solutions.proofs.Words.{AreSatisfied, Follows}
 use Rattle.solutions.proofs.DecisionLemmas.{answered}
 use Rattle.solutions.proofs.clauses.Rules.attach.Goals as goal
 

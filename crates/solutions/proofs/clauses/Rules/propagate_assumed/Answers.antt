@@ -1,5 +1,5 @@
 use Rattle.std.proofs.Common.{◌≡◌, true, false, refl, rules}
-use Rattle.solutions.specs.Clauses.{AreSatisfied, AreTrue}
+use Rattle.solutions.proofs.Words.{AreSatisfied, AreTrue}
 use Rattle.solutions.proofs.DecisionLemmas.{answered}
 use Rattle.solutions.proofs.FollowsLemmas.{follows_none, follows_step}
 use Rattle.solutions.proofs.clauses.Rules.propagate_assumed.Goals as goal

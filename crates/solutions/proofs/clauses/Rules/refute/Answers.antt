@@ -1,5 +1,5 @@
 use Rattle.std.proofs.Common.{◌≡◌, ◌∙◌, length, take, rules, ap}
-use Rattle.solutions.specs.Clauses.{AreSatisfied, AreTrue}
+use Rattle.solutions.proofs.Words.{AreSatisfied, AreTrue}
 use Rattle.solutions.proofs.FollowsLemmas.{follows_take}
 use Rattle.solutions.proofs.clauses.Rules.refute.Goals as goal
 

@@ -1,9 +1,6 @@
 use Rattle.std.proofs.Common.{◌≡◌, ◌∙◌, ℕ, Bool, true, List, length, get_or, subst, sym, ap, ltb, ltb-true}
-use Rattle.std.specs.declared.vec.Vec.{Vec}
 use Rattle.std.proofs.lemmas.List.Elements.{All-get_or}
-use Rattle.solutions.specs.Clauses.{AreSatisfied, has_true, is_true}
-use Rattle.solutions.specs.declared.literal.Fact.{Fact}
-use Rattle.solutions.specs.declared.literal.Literal.{Literal}
+use Rattle.solutions.proofs.Words.{AreSatisfied, Fact, has_true, is_true, Literal, Vec}
 use Rattle.solutions.proofs.DecisionLemmas.{answered}
 use Rattle.solutions.proofs.FollowsLemmas.{follows_none, follows_refuted, follows_where}
 use Rattle.solutions.proofs.clauses.Rules.visit.Goals as goal

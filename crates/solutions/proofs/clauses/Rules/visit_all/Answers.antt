@@ -1,5 +1,5 @@
 use Rattle.std.proofs.Common.{◌≡◌, true, false, rules}
-use Rattle.solutions.specs.Clauses.{AreSatisfied}
+use Rattle.solutions.proofs.Words.{AreSatisfied}
 use Rattle.solutions.proofs.FollowsLemmas.{follows_none, follows_step}
 use Rattle.solutions.proofs.clauses.Rules.visit_all.Goals as goal
 

@@ -1,5 +1,5 @@
 use Rattle.std.proofs.Common.{false}
-use Rattle.solutions.specs.Clauses.{AreSatisfied, Follows}
+use Rattle.solutions.proofs.Words.{AreSatisfied, Follows}
 use Rattle.solutions.proofs.clauses.Rules.visit_all.Given as goal
 
 abbrev pub invariant-loop-place : goal.invariant-loop-place

@@ -1,5 +1,5 @@
 use Rattle.std.proofs.Common.{◌≡◌, true, false, rules, subst, sym}
-use Rattle.solutions.specs.Clauses.{AreSatisfied, Follows}
+use Rattle.solutions.proofs.Words.{AreSatisfied, Follows}
 use Rattle.solutions.proofs.FollowsLemmas.{follows_none, follows_step}
 use Rattle.solutions.proofs.clauses.Rules.visit_watchers.Goals as goal
 

@@ -1,6 +1,6 @@
 use Rattle.std.proofs.Common.{◌≡◌, true, subst, rules}
-use Rattle.std.specs.List.{All}
 use Rattle.std.proofs.lemmas.List.{take_all}
+use Rattle.solutions.proofs.Words.{All}
 use Rattle.solutions.proofs.DecisionLemmas.{next_holds}
 use Rattle.solutions.proofs.encoding.Encoder.are_of.Given.{Over}
 use Rattle.solutions.proofs.encoding.Encoder.are_of.Goals as goal

@@ -1,5 +1,5 @@
 use Rattle.std.proofs.Common.{◌≡◌, take}
-use Rattle.std.specs.List.{All}
+use Rattle.solutions.proofs.Words.{All}
 use Rattle.solutions.proofs.encoding.Encoder.are_of.Given as goal
 
 abbrev pub invariant-loop-solvable : goal.invariant-loop-solvable

@@ -1,20 +1,11 @@
 use Rattle.std.proofs.Common.{◌≡◌, ◌∙◌, ◌+◌, ◌++◌, ◌∷◌, ◌||◌, ◌&&◌, [], List, ap, sym, take, true, false, rules}
 use Rattle.std.proofs.lemmas.List.{take_more}
-use Rattle.solutions.specs.Reasons.{IsOneVersion}
-use Rattle.solutions.specs.Truth.{truth}
-use Rattle.solutions.proofs.EncodingLemmas as L
+use Rattle.solutions.proofs.Words.{IsOneVersion, truth}
 use Rattle.solutions.proofs.MemberLemmas.{one_more}
 use Rattle.solutions.proofs.ReasonLemmas.{next_is, not_both_so}
-use Rattle.resolvo_pool.specs.Functions.{Provider, gathered}
-use Rattle.solutions.proofs.encoding.Encoder.climb.Given.{Over}
+use Rattle.solutions.proofs.encoding.Encoder.climb.Invariants.{provided}
+use Rattle.solutions.proofs.EncodingLemmas as L
 use Rattle.solutions.proofs.encoding.Encoder.climb.Goals as goal
-
--- the provider's functions
-abbrev provided : (g : Over) → g.row.D.Denot → Provider g.row.D-NameId.Denot g.row.D-SolvableId.Denot
-provided g = gathered g.D.NameId.PartialEq.eq g.D.SolvableId.PartialEq.eq g.D.NameId.Slots.IdMap.is_too_large
-    g.D.SolvableId.Slots.IdMap.is_too_large
-    g.D.SolvableId.Set.IdSet.is_too_large g.D.NameId.SolverId.are_many g.D.Interner.universe
-    g.D.DependencyProvider.answers
 
 pub loop-place-init : goal.loop-place-init
 loop-place-init g c =

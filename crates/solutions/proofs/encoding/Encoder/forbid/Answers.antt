@@ -1,21 +1,14 @@
 use Rattle.std.proofs.Common.{◌≡◌, ◌∙◌, ◌∷◌, [], ap, false}
-use Rattle.solutions.specs.Solutions.{is_among}
+use Rattle.solutions.proofs.Words.{gathered, is_among}
 use Rattle.solutions.proofs.DecisionLemmas.{done}
 use Rattle.solutions.proofs.EncodingLemmas as L
-use Rattle.resolvo_pool.specs.Functions.{Provider, gathered}
-use Rattle.solutions.proofs.encoding.Encoder.forbid.Given.{Over}
 use Rattle.solutions.proofs.encoding.Encoder.forbid.Goals as goal
-
--- the provider's functions
-abbrev provided : (g : Over) → g.row.D.Denot → Provider g.row.D-NameId.Denot g.row.D-SolvableId.Denot
-provided g = gathered g.D.NameId.PartialEq.eq g.D.SolvableId.PartialEq.eq g.D.NameId.Slots.IdMap.is_too_large
-    g.D.SolvableId.Slots.IdMap.is_too_large
-    g.D.SolvableId.Set.IdSet.is_too_large g.D.NameId.SolverId.are_many g.D.Interner.universe
-    g.D.DependencyProvider.answers
 
 pub returns : goal.returns
 returns g c =
-    let p = provided g c.args.self.now.provider.now in
+    let p = gathered g.D.NameId.PartialEq.eq g.D.SolvableId.PartialEq.eq g.D.NameId.Slots.IdMap.is_too_large
+    g.D.SolvableId.Slots.IdMap.is_too_large g.D.SolvableId.Set.IdSet.is_too_large g.D.NameId.SolverId.are_many
+    g.D.Interner.universe g.D.DependencyProvider.answers c.args.self.now.provider.now in
     let l = c.new.result in
     let s = c.args.solvable in
     let fact = ap (λ k. k.fact) c.new.ensures ∙ c.in_ok-atom.ensures.fact in

@@ -1,16 +1,8 @@
 use Rattle.std.proofs.Common.{◌∙◌, ◌∷◌, [], List, ap}
-use Rattle.resolvo_pool.specs.Functions.{Provider, gathered}
-use Rattle.solutions.specs.Truth.{NonePickedUnless}
+use Rattle.solutions.proofs.Words.{NonePickedUnless}
+use Rattle.solutions.proofs.encoding.Encoder.forbid_all.Invariants.{provided}
 use Rattle.solutions.proofs.EncodingLemmas as L
-use Rattle.solutions.proofs.encoding.Encoder.forbid_all.Given.{Over}
 use Rattle.solutions.proofs.encoding.Encoder.forbid_all.Goals as goal
-
--- the provider's functions
-abbrev provided : (g : Over) → g.row.D.Denot → Provider g.row.D-NameId.Denot g.row.D-SolvableId.Denot
-provided g = gathered g.D.NameId.PartialEq.eq g.D.SolvableId.PartialEq.eq g.D.NameId.Slots.IdMap.is_too_large
-    g.D.SolvableId.Slots.IdMap.is_too_large
-    g.D.SolvableId.Set.IdSet.is_too_large g.D.NameId.SolverId.are_many g.D.Interner.universe
-    g.D.DependencyProvider.answers
 
 pub loop-solvable-init : goal.loop-solvable-init
 loop-solvable-init g c =

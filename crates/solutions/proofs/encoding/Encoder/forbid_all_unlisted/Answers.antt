@@ -1,17 +1,8 @@
 use Rattle.std.proofs.Common.{◌≡◌, List, true}
-use Rattle.std.specs.List.{All}
-use Rattle.solutions.specs.Solutions.{is_allowed}
+use Rattle.solutions.proofs.Words.{All, is_allowed}
+use Rattle.solutions.proofs.encoding.Encoder.forbid_all_unlisted.Invariants.{provided}
 use Rattle.solutions.proofs.EncodingLemmas as L
-use Rattle.resolvo_pool.specs.Functions.{Provider, gathered}
-use Rattle.solutions.proofs.encoding.Encoder.forbid_all_unlisted.Given.{Over}
 use Rattle.solutions.proofs.encoding.Encoder.forbid_all_unlisted.Goals as goal
-
--- the provider's functions
-abbrev provided : (g : Over) → g.row.D.Denot → Provider g.row.D-NameId.Denot g.row.D-SolvableId.Denot
-provided g = gathered g.D.NameId.PartialEq.eq g.D.SolvableId.PartialEq.eq g.D.NameId.Slots.IdMap.is_too_large
-    g.D.SolvableId.Slots.IdMap.is_too_large
-    g.D.SolvableId.Set.IdSet.is_too_large g.D.NameId.SolverId.are_many g.D.Interner.universe
-    g.D.DependencyProvider.answers
 
 pub loop-solvable-init : goal.loop-solvable-init
 loop-solvable-init g c =

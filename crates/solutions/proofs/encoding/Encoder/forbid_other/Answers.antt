@@ -1,23 +1,15 @@
 use Rattle.std.proofs.Common.{◌≡◌, ◌∙◌, false, true, sym, rules}
-use Rattle.resolvo_pool.specs.Functions.{Provider, gathered}
-use Rattle.solutions.specs.Reasons.{IsOnlyOne}
-use Rattle.solutions.specs.Solutions.{is_among}
+use Rattle.solutions.proofs.Words.{gathered, is_among, IsOnlyOne}
 use Rattle.solutions.proofs.DecisionLemmas.{done}
-use Rattle.solutions.proofs.EncodingLemmas as L
 use Rattle.solutions.proofs.ReasonLemmas.{other_unpicked}
-use Rattle.solutions.proofs.encoding.Encoder.forbid_other.Given.{Over}
+use Rattle.solutions.proofs.EncodingLemmas as L
 use Rattle.solutions.proofs.encoding.Encoder.forbid_other.Goals as goal
-
--- the provider's functions
-abbrev provided : (g : Over) → g.row.D.Denot → Provider g.row.D-NameId.Denot g.row.D-SolvableId.Denot
-provided g = gathered g.D.NameId.PartialEq.eq g.D.SolvableId.PartialEq.eq g.D.NameId.Slots.IdMap.is_too_large
-    g.D.SolvableId.Slots.IdMap.is_too_large
-    g.D.SolvableId.Set.IdSet.is_too_large g.D.NameId.SolverId.are_many g.D.Interner.universe
-    g.D.DependencyProvider.answers
 
 pub returns : goal.returns
 returns g c =
-    let p = provided g c.args.self.now.provider.now in
+    let p = gathered g.D.NameId.PartialEq.eq g.D.SolvableId.PartialEq.eq g.D.NameId.Slots.IdMap.is_too_large
+    g.D.SolvableId.Slots.IdMap.is_too_large g.D.SolvableId.Set.IdSet.is_too_large g.D.NameId.SolverId.are_many
+    g.D.Interner.universe g.D.DependencyProvider.answers c.args.self.now.provider.now in
     let s = c.args.solvable in
     let differs : g.D.SolvableId.PartialEq.eq s c.args.locked ≡ false = search rules in
     let of_it : c.is_of.result ≡ true = search rules in

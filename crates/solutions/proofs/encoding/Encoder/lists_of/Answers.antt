@@ -1,6 +1,5 @@
 use Rattle.std.proofs.Common.{◌≡◌, ◌∙◌, map, sym}
-use Rattle.resolvo_pool.specs.Conditions.{form_holds, formula_holds}
-use Rattle.resolvo_pool.specs.Functions.{Provider, gathered}
+use Rattle.solutions.proofs.Words.{form_holds, formula_holds, gathered, Provider}
 use Rattle.solutions.proofs.DecisionLemmas.{answered, ok_each}
 use Rattle.solutions.proofs.encoding.Encoder.lists_of.Given.{Over}
 use Rattle.solutions.proofs.encoding.Encoder.lists_of.Goals as goal
@@ -8,9 +7,8 @@ use Rattle.solutions.proofs.encoding.Encoder.lists_of.Goals as goal
 -- the provider's functions
 abbrev provided : (g : Over) → g.row.D.Denot → Provider g.row.D-NameId.Denot g.row.D-SolvableId.Denot
 provided g = gathered g.D.NameId.PartialEq.eq g.D.SolvableId.PartialEq.eq g.D.NameId.Slots.IdMap.is_too_large
-    g.D.SolvableId.Slots.IdMap.is_too_large
-    g.D.SolvableId.Set.IdSet.is_too_large g.D.NameId.SolverId.are_many g.D.Interner.universe
-    g.D.DependencyProvider.answers
+    g.D.SolvableId.Slots.IdMap.is_too_large g.D.SolvableId.Set.IdSet.is_too_large g.D.NameId.SolverId.are_many
+    g.D.Interner.universe g.D.DependencyProvider.answers
 
 pub returns : goal.returns
 returns g c =

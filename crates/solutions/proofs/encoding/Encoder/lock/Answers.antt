@@ -1,15 +1,7 @@
-use Rattle.solutions.specs.Reasons.{IsOnlyOne}
+use Rattle.solutions.proofs.Words.{IsOnlyOne}
+use Rattle.solutions.proofs.encoding.Encoder.lock.Invariants.{provided}
 use Rattle.solutions.proofs.EncodingLemmas as L
-use Rattle.resolvo_pool.specs.Functions.{Provider, gathered}
-use Rattle.solutions.proofs.encoding.Encoder.lock.Given.{Over}
 use Rattle.solutions.proofs.encoding.Encoder.lock.Goals as goal
-
--- the provider's functions
-abbrev provided : (g : Over) → g.row.D.Denot → Provider g.row.D-NameId.Denot g.row.D-SolvableId.Denot
-provided g = gathered g.D.NameId.PartialEq.eq g.D.SolvableId.PartialEq.eq g.D.NameId.Slots.IdMap.is_too_large
-    g.D.SolvableId.Slots.IdMap.is_too_large
-    g.D.SolvableId.Set.IdSet.is_too_large g.D.NameId.SolverId.are_many g.D.Interner.universe
-    g.D.DependencyProvider.answers
 
 pub loop-version-init : goal.loop-version-init
 loop-version-init g c =

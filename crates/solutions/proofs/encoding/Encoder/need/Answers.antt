@@ -1,20 +1,17 @@
 use Rattle.std.proofs.Common.{◌≡◌, ◌∙◌, ◌∷◌, [], List, ap, subst, rules}
-use Rattle.solutions.specs.Reasons.{IfPicked}
-use Rattle.solutions.specs.Solutions.{IsSatisfied, is_among}
-use Rattle.solutions.specs.Truth.{AreSatisfiedUnless, AreStillSatisfied}
+use Rattle.solutions.proofs.Words.{AreSatisfiedUnless, AreStillSatisfied, gathered, IfPicked, is_among, IsSatisfied}
+use Rattle.solutions.proofs.Words.{Provider}
 use Rattle.solutions.proofs.DecisionLemmas.{done}
+use Rattle.solutions.proofs.encoding.Encoder.need.Given.{Over}
 use Rattle.solutions.proofs.EncodingLemmas as L
 use Rattle.solutions.proofs.ReasonLemmas as R
-use Rattle.resolvo_pool.specs.Functions.{Provider, gathered}
-use Rattle.solutions.proofs.encoding.Encoder.need.Given.{Over}
 use Rattle.solutions.proofs.encoding.Encoder.need.Goals as goal
 
 -- the provider's functions
 abbrev provided : (g : Over) → g.row.D.Denot → Provider g.row.D-NameId.Denot g.row.D-SolvableId.Denot
 provided g = gathered g.D.NameId.PartialEq.eq g.D.SolvableId.PartialEq.eq g.D.NameId.Slots.IdMap.is_too_large
-    g.D.SolvableId.Slots.IdMap.is_too_large
-    g.D.SolvableId.Set.IdSet.is_too_large g.D.NameId.SolverId.are_many g.D.Interner.universe
-    g.D.DependencyProvider.answers
+    g.D.SolvableId.Slots.IdMap.is_too_large g.D.SolvableId.Set.IdSet.is_too_large g.D.NameId.SolverId.are_many
+    g.D.Interner.universe g.D.DependencyProvider.answers
 
 pub returns-in-None : goal.returns-in-None
 returns-in-None g c =

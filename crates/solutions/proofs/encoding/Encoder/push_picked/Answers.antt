@@ -1,18 +1,9 @@
 use Rattle.std.proofs.Common.{◌≡◌, ◌∙◌, ◌+◌, ◌++◌, ◌∷◌, [], ap, refl, take, rules}
-use Rattle.std.specs.List.{list_any}
 use Rattle.std.proofs.lemmas.List.{take_all}
-use Rattle.resolvo_pool.specs.Functions.{Provider, gathered}
-use Rattle.solutions.specs.Solutions.{is_among}
+use Rattle.solutions.proofs.Words.{is_among, list_any}
+use Rattle.solutions.proofs.encoding.Encoder.push_picked.Invariants.{provided}
 use Rattle.solutions.proofs.EncodingLemmas as L
-use Rattle.solutions.proofs.encoding.Encoder.push_picked.Given.{Over}
 use Rattle.solutions.proofs.encoding.Encoder.push_picked.Goals as goal
-
--- the provider's functions
-abbrev provided : (g : Over) → g.row.D.Denot → Provider g.row.D-NameId.Denot g.row.D-SolvableId.Denot
-provided g = gathered g.D.NameId.PartialEq.eq g.D.SolvableId.PartialEq.eq g.D.NameId.Slots.IdMap.is_too_large
-    g.D.SolvableId.Slots.IdMap.is_too_large
-    g.D.SolvableId.Set.IdSet.is_too_large g.D.NameId.SolverId.are_many g.D.Interner.universe
-    g.D.DependencyProvider.answers
 
 pub loop-solvable-init : goal.loop-solvable-init
 loop-solvable-init g c =

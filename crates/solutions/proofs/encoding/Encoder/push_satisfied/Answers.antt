@@ -1,22 +1,15 @@
 use Rattle.std.proofs.Common.{◌≡◌, ◌∙◌, true, sym, rules}
-use Rattle.std.specs.List.{list_any}
-use Rattle.resolvo_pool.specs.Functions.{Provider, gathered}
-use Rattle.solutions.specs.Solutions.{has_picked, is_among, is_satisfied}
+use Rattle.solutions.proofs.Words.{gathered, is_among, is_satisfied, list_any}
+use Rattle.solutions.specs.Solutions.{has_picked}
 use Rattle.solutions.proofs.DecisionLemmas.{done}
 use Rattle.solutions.proofs.EncodingLemmas as L
-use Rattle.solutions.proofs.encoding.Encoder.push_satisfied.Given.{Over}
 use Rattle.solutions.proofs.encoding.Encoder.push_satisfied.Goals as goal
-
--- the provider's functions
-abbrev provided : (g : Over) → g.row.D.Denot → Provider g.row.D-NameId.Denot g.row.D-SolvableId.Denot
-provided g = gathered g.D.NameId.PartialEq.eq g.D.SolvableId.PartialEq.eq g.D.NameId.Slots.IdMap.is_too_large
-    g.D.SolvableId.Slots.IdMap.is_too_large
-    g.D.SolvableId.Set.IdSet.is_too_large g.D.NameId.SolverId.are_many g.D.Interner.universe
-    g.D.DependencyProvider.answers
 
 pub returns : goal.returns
 returns g c =
-    let p = provided g c.args.self.now.provider.now in
+    let p = gathered g.D.NameId.PartialEq.eq g.D.SolvableId.PartialEq.eq g.D.NameId.Slots.IdMap.is_too_large
+    g.D.SolvableId.Slots.IdMap.is_too_large g.D.SolvableId.Set.IdSet.is_too_large g.D.NameId.SolverId.are_many
+    g.D.Interner.universe g.D.DependencyProvider.answers c.args.self.now.provider.now in
     let knows : c.knows.result ≡ true = search rules in
     let sets = c.as_slice.result.now in
     done c.push_any_held.result

@@ -1,20 +1,18 @@
 use Rattle.std.proofs.Common.{◌≡◌, ◌∷◌, [], true, map, subst}
-use Rattle.std.specs.List.{list_any, list_all}
 use Rattle.std.proofs.lemmas.List.Elements.{All-head}
-use Rattle.resolvo_pool.specs.Functions.{Provider, gathered}
-use Rattle.solutions.specs.Solutions.{IsSatisfied, IsSatisfiedUnder, has_picked, is_among}
-use Rattle.solutions.specs.Truth.{AreSatisfiedUnless, IsSatisfiedUnless}
+use Rattle.solutions.proofs.Words.{AreSatisfiedUnless, gathered, is_among, IsSatisfied, IsSatisfiedUnder}
+use Rattle.solutions.proofs.Words.{IsSatisfiedUnless, list_all, list_any, Provider}
+use Rattle.solutions.specs.Solutions.{has_picked}
 use Rattle.solutions.proofs.DecisionLemmas.{done}
-use Rattle.solutions.proofs.EncodingLemmas as L
 use Rattle.solutions.proofs.encoding.Encoder.require.Given.{Over}
+use Rattle.solutions.proofs.EncodingLemmas as L
 use Rattle.solutions.proofs.encoding.Encoder.require.Goals as goal
 
 -- the provider's functions
 abbrev provided : (g : Over) → g.row.D.Denot → Provider g.row.D-NameId.Denot g.row.D-SolvableId.Denot
 provided g = gathered g.D.NameId.PartialEq.eq g.D.SolvableId.PartialEq.eq g.D.NameId.Slots.IdMap.is_too_large
-    g.D.SolvableId.Slots.IdMap.is_too_large
-    g.D.SolvableId.Set.IdSet.is_too_large g.D.NameId.SolverId.are_many g.D.Interner.universe
-    g.D.DependencyProvider.answers
+    g.D.SolvableId.Slots.IdMap.is_too_large g.D.SolvableId.Set.IdSet.is_too_large g.D.NameId.SolverId.are_many
+    g.D.Interner.universe g.D.DependencyProvider.answers
 
 pub returns-in-None : goal.returns-in-None
 returns-in-None g c =

@@ -1,24 +1,15 @@
 use Rattle.std.proofs.Common.{◌≡◌, ◌∷◌, [], not, subst, rules}
-use Rattle.std.specs.Prelude.{⊤}
-use Rattle.std.specs.List.{list_all}
-use Rattle.resolvo_pool.specs.Functions.{Provider, gathered}
-use Rattle.solutions.specs.Solutions.{has_picked, is_among, is_satisfied}
-use Rattle.solutions.specs.Truth.{HasTrueOr, IsSatisfiedUnless}
+use Rattle.solutions.proofs.Words.{gathered, HasTrueOr, is_among, is_satisfied, IsSatisfiedUnless, list_all, ⊤}
+use Rattle.solutions.specs.Solutions.{has_picked}
 use Rattle.solutions.proofs.DecisionLemmas.{done}
 use Rattle.solutions.proofs.EncodingLemmas as L
-use Rattle.solutions.proofs.encoding.Encoder.require_under.Given.{Over}
 use Rattle.solutions.proofs.encoding.Encoder.require_under.Goals as goal
-
--- the provider's functions
-abbrev provided : (g : Over) → g.row.D.Denot → Provider g.row.D-NameId.Denot g.row.D-SolvableId.Denot
-provided g = gathered g.D.NameId.PartialEq.eq g.D.SolvableId.PartialEq.eq g.D.NameId.Slots.IdMap.is_too_large
-    g.D.SolvableId.Slots.IdMap.is_too_large
-    g.D.SolvableId.Set.IdSet.is_too_large g.D.NameId.SolverId.are_many g.D.Interner.universe
-    g.D.DependencyProvider.answers
 
 pub returns : goal.returns
 returns g c =
-    let p = provided g c.args.self.now.provider.now in
+    let p = gathered g.D.NameId.PartialEq.eq g.D.SolvableId.PartialEq.eq g.D.NameId.Slots.IdMap.is_too_large
+    g.D.SolvableId.Slots.IdMap.is_too_large g.D.SolvableId.Set.IdSet.is_too_large g.D.NameId.SolverId.are_many
+    g.D.Interner.universe g.D.DependencyProvider.answers c.args.self.now.provider.now in
     let unless = c.args.unless.now in
     let held = c.args.held.now in
     let first : c.extend_from_slice.new.self.items ≡ unless = search rules in

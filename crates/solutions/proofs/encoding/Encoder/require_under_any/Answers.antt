@@ -1,18 +1,9 @@
 use Rattle.std.proofs.Common.{◌∷◌, [], List, map}
-use Rattle.std.specs.List.{list_all}
-use Rattle.resolvo_pool.specs.Functions.{Provider, gathered}
-use Rattle.solutions.specs.Solutions.{has_picked, is_among}
-use Rattle.solutions.specs.Truth.{IsSatisfiedUnless}
+use Rattle.solutions.proofs.Words.{is_among, IsSatisfiedUnless, list_all}
+use Rattle.solutions.specs.Solutions.{has_picked}
+use Rattle.solutions.proofs.encoding.Encoder.require_under_any.Invariants.{provided}
 use Rattle.solutions.proofs.EncodingLemmas as L
-use Rattle.solutions.proofs.encoding.Encoder.require_under_any.Given.{Over}
 use Rattle.solutions.proofs.encoding.Encoder.require_under_any.Goals as goal
-
--- the provider's functions
-abbrev provided : (g : Over) → g.row.D.Denot → Provider g.row.D-NameId.Denot g.row.D-SolvableId.Denot
-provided g = gathered g.D.NameId.PartialEq.eq g.D.SolvableId.PartialEq.eq g.D.NameId.Slots.IdMap.is_too_large
-    g.D.SolvableId.Slots.IdMap.is_too_large
-    g.D.SolvableId.Set.IdSet.is_too_large g.D.NameId.SolverId.are_many g.D.Interner.universe
-    g.D.DependencyProvider.answers
 
 pub loop-list-init : goal.loop-list-init
 loop-list-init g c =

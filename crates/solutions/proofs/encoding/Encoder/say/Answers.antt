@@ -1,16 +1,15 @@
-use Rattle.solutions.specs.declared.reason.Reason.TheVariants as R
+use Rattle.solutions.proofs.Words.{gathered, Provider}
 use Rattle.solutions.proofs.DecisionLemmas.{done}
 use Rattle.solutions.proofs.ReasonLemmas.{still_as}
-use Rattle.resolvo_pool.specs.Functions.{Provider, gathered}
 use Rattle.solutions.proofs.encoding.Encoder.say.Given.{Over}
+use Rattle.solutions.specs.declared.reason.Reason.TheVariants as R
 use Rattle.solutions.proofs.encoding.Encoder.say.Goals as goal
 
 -- the provider's functions
 abbrev provided : (g : Over) → g.row.D.Denot → Provider g.row.D-NameId.Denot g.row.D-SolvableId.Denot
 provided g = gathered g.D.NameId.PartialEq.eq g.D.SolvableId.PartialEq.eq g.D.NameId.Slots.IdMap.is_too_large
-    g.D.SolvableId.Slots.IdMap.is_too_large
-    g.D.SolvableId.Set.IdSet.is_too_large g.D.NameId.SolverId.are_many g.D.Interner.universe
-    g.D.DependencyProvider.answers
+    g.D.SolvableId.Slots.IdMap.is_too_large g.D.SolvableId.Set.IdSet.is_too_large g.D.NameId.SolverId.are_many
+    g.D.Interner.universe g.D.DependencyProvider.answers
 
 pub returns-in-Needs : goal.returns-in-Needs
 returns-in-Needs g c =

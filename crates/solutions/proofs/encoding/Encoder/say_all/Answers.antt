@@ -1,18 +1,9 @@
 use Rattle.std.proofs.Common.{List}
-use Rattle.std.specs.List.{All}
-use Rattle.solutions.specs.Reasons.{IsMet}
-use Rattle.solutions.proofs.EncodingLemmas as L
+use Rattle.solutions.proofs.Words.{All, IsMet}
 use Rattle.solutions.proofs.ReasonLemmas.{one_of_all}
-use Rattle.resolvo_pool.specs.Functions.{Provider, gathered}
-use Rattle.solutions.proofs.encoding.Encoder.say_all.Given.{Over}
+use Rattle.solutions.proofs.encoding.Encoder.say_all.Invariants.{provided}
+use Rattle.solutions.proofs.EncodingLemmas as L
 use Rattle.solutions.proofs.encoding.Encoder.say_all.Goals as goal
-
--- the provider's functions
-abbrev provided : (g : Over) → g.row.D.Denot → Provider g.row.D-NameId.Denot g.row.D-SolvableId.Denot
-provided g = gathered g.D.NameId.PartialEq.eq g.D.SolvableId.PartialEq.eq g.D.NameId.Slots.IdMap.is_too_large
-    g.D.SolvableId.Slots.IdMap.is_too_large
-    g.D.SolvableId.Set.IdSet.is_too_large g.D.NameId.SolverId.are_many g.D.Interner.universe
-    g.D.DependencyProvider.answers
 
 pub loop-reason-init : goal.loop-reason-init
 loop-reason-init g c =

@@ -1,19 +1,16 @@
 use Rattle.std.proofs.Common.{◌≡◌, ◌∷◌, [], ◌&&◌, List, ap, true, false, rules}
-use Rattle.solutions.specs.Clauses.{is_true}
-use Rattle.solutions.specs.Truth.{truth}
+use Rattle.solutions.proofs.Words.{gathered, is_true, Provider, truth}
 use Rattle.solutions.proofs.DecisionLemmas.{done}
-use Rattle.solutions.proofs.EncodingLemmas as L
 use Rattle.solutions.proofs.ReasonLemmas.{not_both_where}
-use Rattle.resolvo_pool.specs.Functions.{Provider, gathered}
 use Rattle.solutions.proofs.encoding.Encoder.say_not_both.Given.{Over}
+use Rattle.solutions.proofs.EncodingLemmas as L
 use Rattle.solutions.proofs.encoding.Encoder.say_not_both.Goals as goal
 
 -- the provider's functions
 abbrev provided : (g : Over) → g.row.D.Denot → Provider g.row.D-NameId.Denot g.row.D-SolvableId.Denot
 provided g = gathered g.D.NameId.PartialEq.eq g.D.SolvableId.PartialEq.eq g.D.NameId.Slots.IdMap.is_too_large
-    g.D.SolvableId.Slots.IdMap.is_too_large
-    g.D.SolvableId.Set.IdSet.is_too_large g.D.NameId.SolverId.are_many g.D.Interner.universe
-    g.D.DependencyProvider.answers
+    g.D.SolvableId.Slots.IdMap.is_too_large g.D.SolvableId.Set.IdSet.is_too_large g.D.NameId.SolverId.are_many
+    g.D.Interner.universe g.D.DependencyProvider.answers
 
 pub returns-then-not-is_new : goal.returns-then-not-is_new
 returns-then-not-is_new g c =

@@ -1,7 +1,6 @@
 use Rattle.std.proofs.Common.{◌≡◌, ◌∙◌, ◌++◌, ap, get_or, rules}
-use Rattle.std.specs.List.{flat_map}
 use Rattle.std.proofs.lemmas.List.{take_all}
-use Rattle.resolvo_pool.specs.Provider.{sorted}
+use Rattle.solutions.proofs.Words.{flat_map, sorted}
 use Rattle.solutions.proofs.EncodingLemmas.{own_default}
 use Rattle.solutions.proofs.NewestLemmas.{next_list}
 use Rattle.solutions.proofs.newest.Wisher.all_sorted.Goals as goal

@@ -1,6 +1,5 @@
 use Rattle.std.proofs.Common.{◌≡◌, take}
-use Rattle.std.specs.List.{flat_map}
-use Rattle.resolvo_pool.specs.Provider.{sorted}
+use Rattle.solutions.proofs.Words.{flat_map, sorted}
 use Rattle.solutions.proofs.newest.Wisher.all_sorted.Given as goal
 
 abbrev pub invariant-loop-set : goal.invariant-loop-set

@@ -1,18 +1,9 @@
 use Rattle.std.proofs.Common.{◌∙◌, ◌++◌, ap}
 use Rattle.std.proofs.lemmas.List.{take_all}
-use Rattle.resolvo_pool.specs.Functions.{Provider, gathered}
-use Rattle.resolvo_pool.specs.Provider.{filtered}
-use Rattle.solutions.specs.Newest.{alternatives_for, is_of_one}
+use Rattle.solutions.proofs.Words.{alternatives_for, filtered, is_of_one}
 use Rattle.solutions.proofs.NewestLemmas.{filtered_joins, next_part}
-use Rattle.solutions.proofs.newest.Wisher.push_all.Given.{Over}
+use Rattle.solutions.proofs.newest.Wisher.push_all.Invariants.{provided}
 use Rattle.solutions.proofs.newest.Wisher.push_all.Goals as goal
-
--- the provider's functions
-abbrev provided : (g : Over) → g.row.D.Denot → Provider g.row.D-NameId.Denot g.row.D-SolvableId.Denot
-provided g = gathered g.D.NameId.PartialEq.eq g.D.SolvableId.PartialEq.eq g.D.NameId.Slots.IdMap.is_too_large
-    g.D.SolvableId.Slots.IdMap.is_too_large
-    g.D.SolvableId.Set.IdSet.is_too_large g.D.NameId.SolverId.are_many g.D.Interner.universe
-    g.D.DependencyProvider.answers
 
 pub loop-solvable-preserved : goal.loop-solvable-preserved
 loop-solvable-preserved g c =

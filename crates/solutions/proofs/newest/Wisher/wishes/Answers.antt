@@ -1,20 +1,10 @@
 use Rattle.std.proofs.Common.{◌≡◌, ◌∙◌, ◌∷◌, [], ◌++◌, ap, get_or, map, rules}
 use Rattle.std.proofs.lemmas.List.{take_all}
-use Rattle.resolvo_pool.specs.Functions.{Provider, gathered}
-use Rattle.resolvo_pool.specs.Types.Requirement.{Requirement}
-use Rattle.resolvo_pool.specs.Types.Requirement.TheVariants.{Single}
-use Rattle.solutions.specs.Newest.{wish_for}
+use Rattle.solutions.proofs.Words.{Requirement, Single, wish_for}
 use Rattle.solutions.proofs.EncodingLemmas.{own_default}
 use Rattle.solutions.proofs.NewestLemmas.{next_wish}
-use Rattle.solutions.proofs.newest.Wisher.wishes.Given.{Over}
+use Rattle.solutions.proofs.newest.Wisher.wishes.Invariants.{provided}
 use Rattle.solutions.proofs.newest.Wisher.wishes.Goals as goal
-
--- the provider's functions
-abbrev provided : (g : Over) → g.row.D.Denot → Provider g.row.D-NameId.Denot g.row.D-SolvableId.Denot
-provided g = gathered g.D.NameId.PartialEq.eq g.D.SolvableId.PartialEq.eq g.D.NameId.Slots.IdMap.is_too_large
-    g.D.SolvableId.Slots.IdMap.is_too_large
-    g.D.SolvableId.Set.IdSet.is_too_large g.D.NameId.SolverId.are_many g.D.Interner.universe
-    g.D.DependencyProvider.answers
 
 pub loop-requirement-preserved : goal.loop-requirement-preserved
 loop-requirement-preserved g c =

@@ -1,5 +1,5 @@
 use Rattle.std.proofs.Common.{◌≡◌, true, false, rules, subst}
-use Rattle.solutions.specs.Clauses.{Replayed}
+use Rattle.solutions.proofs.Words.{Replayed}
 use Rattle.solutions.proofs.ReplayLemmas.{replayed_by, replayed_then}
 use Rattle.solutions.proofs.refuting.Replay.all.Goals as goal
 

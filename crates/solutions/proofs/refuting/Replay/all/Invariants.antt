@@ -1,5 +1,5 @@
 use Rattle.std.proofs.Common.{false}
-use Rattle.solutions.specs.Clauses.{Replayed}
+use Rattle.solutions.proofs.Words.{Replayed}
 use Rattle.solutions.proofs.refuting.Replay.all.Given as goal
 
 abbrev pub invariant-loop-package_literals : goal.invariant-loop-package_literals

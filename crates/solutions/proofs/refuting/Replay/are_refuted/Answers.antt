@@ -1,5 +1,5 @@
 use Rattle.std.proofs.Common.{false, refl, sym, subst}
-use Rattle.solutions.specs.Clauses.{Replayed}
+use Rattle.solutions.proofs.Words.{Replayed}
 use Rattle.solutions.proofs.DecisionLemmas.{answered_where, done}
 use Rattle.solutions.proofs.ReplayLemmas.{replayed_none, refuted_still}
 use Rattle.solutions.proofs.refuting.Replay.are_refuted.Goals as goal

@@ -1,5 +1,5 @@
 use Rattle.std.proofs.Common.{◌≡◌, length, ltb-true, sym}
-use Rattle.solutions.specs.Settled.{first_true}
+use Rattle.solutions.proofs.Words.{first_true}
 use Rattle.solutions.proofs.DecisionLemmas.{done}
 use Rattle.solutions.proofs.SettledLemmas.{stays_at, stays_none}
 use Rattle.solutions.proofs.refuting.Replay.assume_at.Goals as goal

@@ -1,6 +1,5 @@
 use Rattle.std.proofs.Common.{false}
-use Rattle.solutions.specs.Clauses.{Replayed}
-use Rattle.solutions.specs.Settled.{IsAtLeast}
+use Rattle.solutions.proofs.Words.{IsAtLeast, Replayed}
 use Rattle.solutions.proofs.refuting.Replay.is_at_least.Given as goal
 
 abbrev pub invariant-loop-place : goal.invariant-loop-place

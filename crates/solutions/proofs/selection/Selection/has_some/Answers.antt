@@ -1,19 +1,10 @@
 use Rattle.std.proofs.Common.{◌≡◌, ◌∙◌, ◌||◌, true, false, get_or, sym, ap, rules}
-use Rattle.std.specs.List.{list_any}
 use Rattle.std.proofs.lemmas.List.{take_all}
 use Rattle.std.proofs.lemmas.List.Folds.{list_any_at, list_any_more}
-use Rattle.resolvo_pool.specs.Functions.{Provider, gathered}
-use Rattle.solutions.specs.Selections.{is_kept}
+use Rattle.solutions.proofs.Words.{is_kept, list_any}
 use Rattle.solutions.specs.Solutions.{has_picked}
-use Rattle.solutions.proofs.selection.Selection.has_some.Given.{Over}
+use Rattle.solutions.proofs.selection.Selection.has_some.Invariants.{provided}
 use Rattle.solutions.proofs.selection.Selection.has_some.Goals as goal
-
--- the provider's functions
-abbrev provided : (g : Over) → g.row.D.Denot → Provider g.row.D-NameId.Denot g.row.D-SolvableId.Denot
-provided g = gathered g.D.NameId.PartialEq.eq g.D.SolvableId.PartialEq.eq g.D.NameId.Slots.IdMap.is_too_large
-    g.D.SolvableId.Slots.IdMap.is_too_large
-    g.D.SolvableId.Set.IdSet.is_too_large g.D.NameId.SolverId.are_many g.D.Interner.universe
-    g.D.DependencyProvider.answers
 
 pub loop-set-preserved : goal.loop-set-preserved
 loop-set-preserved g c =

@@ -1,21 +1,12 @@
 use Rattle.std.proofs.Common.{◌≡◌, ℕ, sym, subst, rules, IfOk, Option, Some}
-use Rattle.std.specs.Bool.{Decides}
-use Rattle.resolvo_pool.specs.Functions.{Provider, gathered}
-use Rattle.solutions.specs.Selections.{is_kept}
-use Rattle.solutions.specs.Solutions.{IsSatisfiedUnder}
-use Rattle.solutions.proofs.selection.Selection.satisfies.Given.{Over}
+use Rattle.solutions.proofs.Words.{Decides, gathered, is_kept, IsSatisfiedUnder}
 use Rattle.solutions.proofs.selection.Selection.satisfies.Goals as goal
-
--- the provider's functions
-abbrev provided : (g : Over) → g.row.D.Denot → Provider g.row.D-NameId.Denot g.row.D-SolvableId.Denot
-provided g = gathered g.D.NameId.PartialEq.eq g.D.SolvableId.PartialEq.eq g.D.NameId.Slots.IdMap.is_too_large
-    g.D.SolvableId.Slots.IdMap.is_too_large
-    g.D.SolvableId.Set.IdSet.is_too_large g.D.NameId.SolverId.are_many g.D.Interner.universe
-    g.D.DependencyProvider.answers
 
 pub returns-in-Some-clause-ok : goal.returns-in-Some-clause-ok
 returns-in-Some-clause-ok g c =
-    let p = provided g c.args.self.now.provider.now in
+    let p = gathered g.D.NameId.PartialEq.eq g.D.SolvableId.PartialEq.eq g.D.NameId.Slots.IdMap.is_too_large
+    g.D.SolvableId.Slots.IdMap.is_too_large g.D.SolvableId.Set.IdSet.is_too_large g.D.NameId.SolverId.are_many
+    g.D.Interner.universe g.D.DependencyProvider.answers c.args.self.now.provider.now in
     let has = is_kept g.D.SolvableId.PartialEq.eq (g.D.SolvableId.Set.IdSet.has c.args.self.now.picked)
     c.args.self.now.left_out in
     let under : c.args.conditional.condition ≡ Some c.in-Some.condition = search rules in

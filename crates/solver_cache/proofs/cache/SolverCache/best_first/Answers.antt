@@ -1,6 +1,5 @@
 use Rattle.std.proofs.Common.{◌≡◌, ap, subst}
-use Rattle.std.specs.Prelude.{IfOk}
-use Rattle.providers.specs.Provider.{favored_first}
+use Rattle.solver_cache.proofs.Words.{favored_first, IfOk}
 use Rattle.solver_cache.proofs.cache.SolverCache.best_first.Goals as goal
 
 pub returns-clause-ok : goal.returns-clause-ok

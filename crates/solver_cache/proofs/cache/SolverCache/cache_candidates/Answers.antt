@@ -1,6 +1,5 @@
 use Rattle.std.proofs.Common.{sym}
-use Rattle.solver_cache.specs.Cache.{IsAnswer}
-use Rattle.solver_cache.specs.Functions.{gathered}
+use Rattle.solver_cache.proofs.Words.{gathered, IsAnswer}
 use Rattle.solver_cache.proofs.CacheLemmas.{kept_answer, later_same, once_kept}
 use Rattle.solver_cache.proofs.cache.SolverCache.cache_candidates.Goals as goal
 
@@ -8,9 +7,8 @@ pub returns-in-Some-clause-answered : goal.returns-in-Some-clause-answered
 returns-in-Some-clause-answered g c =
     let D = g.D in
     let p = gathered D.NameId.PartialEq.eq D.SolvableId.PartialEq.eq D.NameId.Slots.IdMap.is_too_large
-    D.SolvableId.Slots.IdMap.is_too_large
-    D.SolvableId.Set.IdSet.is_too_large D.NameId.SolverId.are_many D.Interner.universe D.DependencyProvider.answers
-    c.self.inside.provider in
+    D.SolvableId.Slots.IdMap.is_too_large D.SolvableId.Set.IdSet.is_too_large D.NameId.SolverId.are_many
+    D.Interner.universe D.DependencyProvider.answers c.self.inside.provider in
     rw (sym c.self.view_is) (record {
       queried = once_kept _ _ _ (sym c.in-Some.ensures.found);
       own = c.in-Some.ensures.answer;

@@ -1,5 +1,5 @@
 use Rattle.std.proofs.Common.{◌≡◌, sym}
-use Rattle.providers.specs.Dependencies.{needs_of}
+use Rattle.solver_cache.proofs.Words.{needs_of}
 use Rattle.solver_cache.proofs.CacheLemmas.{kept_answer, once_kept}
 use Rattle.solver_cache.proofs.cache.SolverCache.cache_dependencies.Goals as goal
 

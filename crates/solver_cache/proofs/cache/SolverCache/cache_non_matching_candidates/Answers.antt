@@ -1,10 +1,7 @@
 use Rattle.std.proofs.lemmas.Grind.{common_steps}
 use Rattle.std.proofs.Common.{◌≡◌, ◌∙◌, true, false, ap, subst, sym, true≢false, inr, arith}
-use Rattle.providers.specs.Provider.{non_matching}
-use Rattle.solver_cache.specs.Cache.{is_cached, is_set_queried, same_set}
-use Rattle.solver_cache.specs.Functions.{Provider, gathered}
-use Rattle.solver_cache.specs.Questions.{IsLater, IsQueried}
-use Rattle.solver_cache.specs.declared.error.CacheError.TheVariants.{Store}
+use Rattle.solver_cache.proofs.Words.{gathered, is_cached, is_set_queried, IsLater, IsQueried, non_matching, Provider}
+use Rattle.solver_cache.proofs.Words.{same_set, Store}
 use Rattle.solver_cache.proofs.CacheLemmas.{found_non_matching, handed_on, later_same, more_non_matching}
 use Rattle.solver_cache.proofs.CacheLemmas.{once_kept, once_new, right_unmatched, value_last}
 use Rattle.solver_cache.proofs.UnionLemmas.{none_of}
@@ -15,9 +12,8 @@ use Rattle.solver_cache.proofs.cache.SolverCache.cache_non_matching_candidates.G
 -- the provider's functions
 abbrev provided : (g : Over) → g.row.D.Denot → Provider g.row.D-NameId.Denot g.row.D-SolvableId.Denot
 provided g = gathered g.D.NameId.PartialEq.eq g.D.SolvableId.PartialEq.eq g.D.NameId.Slots.IdMap.is_too_large
-    g.D.SolvableId.Slots.IdMap.is_too_large
-    g.D.SolvableId.Set.IdSet.is_too_large g.D.NameId.SolverId.are_many g.D.Interner.universe
-    g.D.DependencyProvider.answers
+    g.D.SolvableId.Slots.IdMap.is_too_large g.D.SolvableId.Set.IdSet.is_too_large g.D.NameId.SolverId.are_many
+    g.D.Interner.universe g.D.DependencyProvider.answers
 
 -- what is kept
 

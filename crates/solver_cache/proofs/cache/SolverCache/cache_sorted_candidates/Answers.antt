@@ -1,7 +1,6 @@
 use Rattle.std.proofs.Common.{[], ◌∷◌, arith}
 use Rattle.std.proofs.lemmas.Result.{IfErr-weaker}
-use Rattle.solver_cache.specs.Functions.{gathered}
-use Rattle.solver_cache.specs.Outcomes.{RefusesSorted, RefusesSets}
+use Rattle.solver_cache.proofs.Words.{gathered, RefusesSets, RefusesSorted}
 use Rattle.solver_cache.proofs.CacheLemmas.{later_same, refused_in_turn}
 use Rattle.solver_cache.proofs.UnansweredLemmas.{left_of_one}
 use Rattle.solver_cache.proofs.cache.SolverCache.cache_sorted_candidates.Goals as goal
@@ -11,9 +10,8 @@ returns-in-Single-clause-refused g c =
     let D = g.D in
     let old = c.args.self.now in
     let p = gathered D.NameId.PartialEq.eq D.SolvableId.PartialEq.eq D.NameId.Slots.IdMap.is_too_large
-    D.SolvableId.Slots.IdMap.is_too_large
-    D.SolvableId.Set.IdSet.is_too_large D.NameId.SolverId.are_many D.Interner.universe D.DependencyProvider.answers
-    old.provider in
+    D.SolvableId.Slots.IdMap.is_too_large D.SolvableId.Set.IdSet.is_too_large D.NameId.SolverId.are_many
+    D.Interner.universe D.DependencyProvider.answers old.provider in
     let may = D.DependencyProvider.may_answer old.provider in
     let has = D.SolvableId.Set.IdSet.has in
     let v = c.in-Single.set in

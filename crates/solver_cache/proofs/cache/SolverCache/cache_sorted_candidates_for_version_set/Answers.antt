@@ -1,13 +1,7 @@
 use Rattle.std.proofs.lemmas.Grind.{common_steps}
 use Rattle.std.proofs.Common.{◌≡◌, ◌∙◌, Some, true, false, ap, subst, sym, true≢false, inl, inr, arith}
-use Rattle.std.specs.Map.{lookup}
-use Rattle.providers.specs.Provider.{sorted, favored_first}
-use Rattle.providers.specs.Requirement.{same_requirement}
-use Rattle.providers.specs.declared.requirement.Requirement.TheVariants.{Single}
-use Rattle.solver_cache.specs.Cache.{is_cached, is_set_queried}
-use Rattle.solver_cache.specs.Functions.{Provider, gathered}
-use Rattle.solver_cache.specs.Questions.{IsLater, IsMatched}
-use Rattle.solver_cache.specs.declared.error.CacheError.TheVariants.{Store}
+use Rattle.solver_cache.proofs.Words.{favored_first, gathered, is_cached, is_set_queried, IsLater, IsMatched, lookup}
+use Rattle.solver_cache.proofs.Words.{Provider, same_requirement, Single, sorted, Store}
 use Rattle.solver_cache.proofs.CacheLemmas.{found_single, handed_on, later_same, more_list, more_sorted}
 use Rattle.solver_cache.proofs.CacheLemmas.{once_kept, once_new, right_single, same_is, value_last}
 use Rattle.solver_cache.proofs.UnionLemmas.{none_of}
@@ -19,9 +13,8 @@ use Rattle.solver_cache.proofs.cache.SolverCache.cache_sorted_candidates_for_ver
 -- the provider's functions
 abbrev provided : (g : Over) → g.row.D.Denot → Provider g.row.D-NameId.Denot g.row.D-SolvableId.Denot
 provided g = gathered g.D.NameId.PartialEq.eq g.D.SolvableId.PartialEq.eq g.D.NameId.Slots.IdMap.is_too_large
-    g.D.SolvableId.Slots.IdMap.is_too_large
-    g.D.SolvableId.Set.IdSet.is_too_large g.D.NameId.SolverId.are_many g.D.Interner.universe
-    g.D.DependencyProvider.answers
+    g.D.SolvableId.Slots.IdMap.is_too_large g.D.SolvableId.Set.IdSet.is_too_large g.D.NameId.SolverId.are_many
+    g.D.Interner.universe g.D.DependencyProvider.answers
 
 -- what is kept
 

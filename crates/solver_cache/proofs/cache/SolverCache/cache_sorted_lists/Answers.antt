@@ -1,7 +1,6 @@
 use Rattle.std.proofs.Common.{sym}
 use Rattle.std.proofs.lemmas.Result.{IfOk-weaker}
-use Rattle.typed_ids.specs.declared.error.StoreError.TheVariants.{OutOfMemory}
-use Rattle.solver_cache.specs.declared.error.CacheError.TheVariants.{Store}
+use Rattle.solver_cache.proofs.Words.{OutOfMemory, Store}
 use Rattle.solver_cache.proofs.CacheLemmas.{handed_on, later_same}
 use Rattle.solver_cache.proofs.UnansweredLemmas.{none_sorted}
 use Rattle.solver_cache.proofs.cache.SolverCache.cache_sorted_lists.Goals as goal

@@ -1,6 +1,5 @@
 use Rattle.std.proofs.Common.{◌≡◌, take}
-use Rattle.std.specs.Prelude.{flat_map}
-use Rattle.solver_cache.specs.Cache.{listed}
+use Rattle.solver_cache.proofs.Words.{flat_map, listed}
 use Rattle.solver_cache.proofs.cache.SolverCache.concatenated.Given as goal
 
 abbrev pub invariant-loop-id : goal.invariant-loop-id

@@ -1,8 +1,7 @@
 use Rattle.std.proofs.lemmas.Grind.{common_steps}
 use Rattle.std.proofs.Common.{◌∙◌, sym, refl, ap, arith}
-use Rattle.solver_cache.specs.Cache.{is_cached}
+use Rattle.solver_cache.proofs.Words.{is_cached, Store}
 use Rattle.solver_cache.proofs.CacheLemmas.{right_fetched, once_new, value_last, handed_on, refused_unasked}
-use Rattle.solver_cache.specs.declared.error.CacheError.TheVariants.{Store}
 use Rattle.solver_cache.proofs.cache.SolverCache.fetch.Goals as goal
 
 pub invariant_of-self-2 : goal.invariant_of-self-2

@@ -1,10 +1,6 @@
 use Rattle.std.proofs.lemmas.Grind.{common_steps}
 use Rattle.std.proofs.Common.{◌≡◌, ◌∙◌, ap, subst, sym, inl, inr, arith}
-use Rattle.providers.specs.Provider.{filtered}
-use Rattle.solver_cache.specs.Functions.{Provider, gathered}
-use Rattle.solver_cache.specs.Questions.{IsQueried}
-use Rattle.solver_cache.specs.Unanswered.{IsUnanswered}
-use Rattle.solver_cache.specs.declared.error.CacheError.TheVariants.{Store}
+use Rattle.solver_cache.proofs.Words.{filtered, gathered, IsQueried, IsUnanswered, Provider, Store}
 use Rattle.solver_cache.proofs.CacheLemmas.{handed_on, same_answer}
 use Rattle.solver_cache.proofs.cache.SolverCache.filtered.Given.{Over}
 use Rattle.solver_cache.proofs.cache.SolverCache.filtered.Goals as goal
@@ -12,9 +8,8 @@ use Rattle.solver_cache.proofs.cache.SolverCache.filtered.Goals as goal
 -- the provider's functions
 abbrev provided : (g : Over) → g.row.D.Denot → Provider g.row.D-NameId.Denot g.row.D-SolvableId.Denot
 provided g = gathered g.D.NameId.PartialEq.eq g.D.SolvableId.PartialEq.eq g.D.NameId.Slots.IdMap.is_too_large
-    g.D.SolvableId.Slots.IdMap.is_too_large
-    g.D.SolvableId.Set.IdSet.is_too_large g.D.NameId.SolverId.are_many g.D.Interner.universe
-    g.D.DependencyProvider.answers
+    g.D.SolvableId.Slots.IdMap.is_too_large g.D.SolvableId.Set.IdSet.is_too_large g.D.NameId.SolverId.are_many
+    g.D.Interner.universe g.D.DependencyProvider.answers
 
 pub filter_candidates-requires-clause-known : goal.filter_candidates-requires-clause-known
 filter_candidates-requires-clause-known g c =

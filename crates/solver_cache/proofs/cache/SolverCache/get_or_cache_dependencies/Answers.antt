@@ -1,7 +1,7 @@
 use Rattle.std.proofs.Common.{◌≡◌, ◌<◌, ◌∙◌, length, sym, arith}
-use Rattle.std.specs.Map.{values_of}
 use Rattle.std.proofs.lemmas.List.{length-map}
 use Rattle.std.proofs.lemmas.Option.{slice_get_within}
+use Rattle.solver_cache.proofs.Words.{values_of}
 use Rattle.solver_cache.proofs.CacheLemmas.{handed_on, some_is}
 use Rattle.solver_cache.proofs.RefusalLemmas.{refused_needs}
 use Rattle.solver_cache.proofs.cache.SolverCache.get_or_cache_dependencies.Goals as goal

@@ -1,5 +1,5 @@
 use Rattle.std.proofs.Common.{◌∙◌, [], ap}
-use Rattle.std.specs.Prelude.{unwrap_or}
+use Rattle.solver_cache.proofs.Words.{unwrap_or}
 use Rattle.solver_cache.proofs.CacheLemmas.{handed_on}
 use Rattle.solver_cache.proofs.RefusalLemmas.{refused_filtered}
 use Rattle.solver_cache.proofs.cache.SolverCache.get_or_cache_matching_candidates.Goals as goal

@@ -1,7 +1,6 @@
 use Rattle.std.proofs.Common.{◌≡◌, ◌∙◌, [], true, ap}
-use Rattle.std.specs.Prelude.{unwrap_or}
 use Rattle.std.proofs.lemmas.List.Elements.{All-filter}
-use Rattle.providers.specs.Provider.{matching}
+use Rattle.solver_cache.proofs.Words.{matching, unwrap_or}
 use Rattle.solver_cache.proofs.cache.SolverCache.matching_list.Goals as goal
 
 pub returns-clause-known : goal.returns-clause-known

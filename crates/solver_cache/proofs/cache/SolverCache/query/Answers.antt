@@ -1,11 +1,9 @@
 use Rattle.std.proofs.lemmas.Grind.{common_steps}
 use Rattle.std.proofs.Common.{◌∙◌, sym, refl, ap, length, inr, arith}
-use Rattle.solver_cache.specs.Cache.{is_cached}
-use Rattle.solver_cache.specs.Hints.{hints_of}
+use Rattle.solver_cache.proofs.Words.{hints_of, is_cached, Store}
 use Rattle.solver_cache.proofs.CacheLemmas.{right_asked, right_marked, later_asked, later_marked, once_new, value_last}
 use Rattle.solver_cache.proofs.CacheLemmas.{found_last, kept_last, handed_on, refused_unasked, refusal_wider}
 use Rattle.solver_cache.proofs.IdLemmas.{used_up_by_many, second_fails}
-use Rattle.solver_cache.specs.declared.error.CacheError.TheVariants.{Store}
 use Rattle.solver_cache.proofs.HintLemmas.{still_marked}
 use Rattle.solver_cache.proofs.cache.SolverCache.query.Goals as goal
 

@@ -1,29 +1,16 @@
 use Rattle.std.proofs.lemmas.Grind.{common_steps}
 use Rattle.std.proofs.Common.{◌≡◌, ◌++◌, ◌∷◌, [], ◌+◌, ◌∙◌, true, false, get_or, subst, sym, ap, take, arith}
-use Rattle.std.specs.List.{list_any}
-use Rattle.std.specs.Prelude.{All}
 use Rattle.std.proofs.lemmas.List.{take_more, take_all}
-use Rattle.typed_ids.specs.declared.error.StoreError.TheVariants.{OutOfMemory}
-use Rattle.typed_ids.specs.declared.version_set_id.VersionSetId.{VersionSetId}
 use Rattle.std.proofs.lemmas.List.Elements.{All-push}
-use Rattle.solver_cache.specs.Cache.{is_set_queried}
-use Rattle.solver_cache.specs.Functions.{Provider, gathered}
-use Rattle.solver_cache.specs.Outcomes.{AnswersSorted, RefusesSorted}
-use Rattle.solver_cache.specs.declared.error.CacheError.TheVariants.{Store}
+use Rattle.solver_cache.proofs.Words.{All, AnswersSorted, is_set_queried, list_any, OutOfMemory, RefusesSorted, Store}
+use Rattle.solver_cache.proofs.Words.{VersionSetId}
 use Rattle.solver_cache.proofs.CacheLemmas.{handed_on, later_same, later_trans, asked_later, sorted_push}
 use Rattle.solver_cache.proofs.CacheLemmas.{refused_in_turn}
 use Rattle.solver_cache.proofs.IdLemmas.{all_asked_fit}
 use Rattle.solver_cache.proofs.ListedLemmas.{listed_push}
 use Rattle.solver_cache.proofs.UnansweredLemmas.{left_in_turn, none_sorted}
-use Rattle.solver_cache.proofs.cache.SolverCache.sort_all.Given.{Over}
+use Rattle.solver_cache.proofs.cache.SolverCache.sort_all.Invariants.{provided}
 use Rattle.solver_cache.proofs.cache.SolverCache.sort_all.Goals as goal
-
--- the provider's functions
-abbrev provided : (g : Over) → g.row.D.Denot → Provider g.row.D-NameId.Denot g.row.D-SolvableId.Denot
-provided g = gathered g.D.NameId.PartialEq.eq g.D.SolvableId.PartialEq.eq g.D.NameId.Slots.IdMap.is_too_large
-    g.D.SolvableId.Slots.IdMap.is_too_large
-    g.D.SolvableId.Set.IdSet.is_too_large g.D.NameId.SolverId.are_many g.D.Interner.universe
-    g.D.DependencyProvider.answers
 
 abbrev none : VersionSetId
 none = record { 0 = 0 }

@@ -1,7 +1,6 @@
 use Rattle.std.proofs.Common.{◌≡◌, ◌∙◌, true, ap, inr}
 use Rattle.std.proofs.lemmas.List.Elements.{All-filter}
-use Rattle.providers.specs.Provider.{favored_first}
-use Rattle.solver_cache.specs.declared.error.CacheError.TheVariants.{Store}
+use Rattle.solver_cache.proofs.Words.{favored_first, Store}
 use Rattle.solver_cache.proofs.CacheLemmas.{handed_on}
 use Rattle.solver_cache.proofs.FilteringLemmas.{memory_refused}
 use Rattle.solver_cache.proofs.cache.SolverCache.sorted_candidates_for_version_set.Goals as goal

@@ -1,17 +1,10 @@
 use Rattle.std.proofs.lemmas.Grind.{common_steps}
 use Rattle.std.proofs.Common.{◌≡◌, ◌∙◌, Some, true, false, ap, subst, sym, true≢false, arith}
-use Rattle.std.specs.Map.{lookup}
-use Rattle.std.specs.Prelude.{All}
-use Rattle.providers.specs.Requirement.{same_requirement}
-use Rattle.providers.specs.declared.requirement.Requirement.TheVariants.{Union}
-use Rattle.solver_cache.specs.Cache.{is_cached, is_set_queried, sorted_of}
-use Rattle.solver_cache.specs.Functions.{Provider, gathered}
-use Rattle.solver_cache.specs.Questions.{IsLater}
-use Rattle.solver_cache.specs.Unanswered.{AreUnsorted}
-use Rattle.solver_cache.specs.declared.error.CacheError.TheVariants.{Store}
+use Rattle.solver_cache.proofs.Words.{All, AreUnsorted, gathered, is_cached, is_set_queried, IsLater, lookup, Provider}
+use Rattle.solver_cache.proofs.Words.{same_requirement, sorted_of, Store, Union}
 use Rattle.solver_cache.proofs.CacheLemmas.{found_sorted, handed_on, later_same, more_list, more_sorted}
-use Rattle.solver_cache.proofs.UnionLemmas.{none_of}
 use Rattle.solver_cache.proofs.CacheLemmas.{once_kept, once_new, right_sorted, same_is, value_last}
+use Rattle.solver_cache.proofs.UnionLemmas.{none_of}
 use Rattle.solver_cache.proofs.UnionLemmas.{union_still_new}
 use Rattle.solver_cache.proofs.FilteringLemmas.{memory_refused}
 use Rattle.solver_cache.proofs.SortingLemmas.{later_sorted, not_kept}
@@ -22,9 +15,8 @@ use Rattle.solver_cache.proofs.cache.SolverCache.sorted_union.Goals as goal
 -- the provider's functions
 abbrev provided : (g : Over) → g.row.D.Denot → Provider g.row.D-NameId.Denot g.row.D-SolvableId.Denot
 provided g = gathered g.D.NameId.PartialEq.eq g.D.SolvableId.PartialEq.eq g.D.NameId.Slots.IdMap.is_too_large
-    g.D.SolvableId.Slots.IdMap.is_too_large
-    g.D.SolvableId.Set.IdSet.is_too_large g.D.NameId.SolverId.are_many g.D.Interner.universe
-    g.D.DependencyProvider.answers
+    g.D.SolvableId.Slots.IdMap.is_too_large g.D.SolvableId.Set.IdSet.is_too_large g.D.NameId.SolverId.are_many
+    g.D.Interner.universe g.D.DependencyProvider.answers
 
 -- what is kept
 

@@ -1,5 +1,5 @@
 use Rattle.std.proofs.Common.{◌∙◌, [], sym, ap}
-use Rattle.std.specs.Prelude.{unwrap_or}
+use Rattle.solver_cache.proofs.Words.{unwrap_or}
 use Rattle.solver_cache.proofs.KeptListLemmas.{list_at}
 use Rattle.solver_cache.proofs.stored_lists.StoredLists.at.Goals as goal
 

@@ -1,6 +1,5 @@
 use Rattle.std.proofs.Common.{◌≡◌, ◌∙◌, sym, Option, Some, None, ℕ, slice_get}
-use Rattle.std.specs.Prelude.{IfSome}
-use Rattle.std.specs.Map.{lookup, values_of}
+use Rattle.solver_cache.proofs.Words.{IfSome, lookup, values_of}
 use Rattle.solver_cache.proofs.KeptListLemmas.{lists, found, list_found}
 use Rattle.solver_cache.proofs.stored_lists.StoredLists.find.Goals as goal
 

@@ -1,6 +1,5 @@
 use Rattle.std.proofs.Common.{◌≡◌, [], sym, ap, ◌∙◌, drop}
-use Rattle.watch_map.specs.ClauseList.{contents}
-use Rattle.watch_map.specs.Marks.{none_watched_false}
+use Rattle.watch_map.proofs.Words.{contents, none_watched_false}
 use Rattle.watch_map.proofs.MarkedLists.{none_of_clauses}
 use Rattle.watch_map.proofs.clause_list.ClauseList.forget_false_from.Goals as goal
 

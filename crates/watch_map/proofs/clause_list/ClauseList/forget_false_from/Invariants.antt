@@ -1,6 +1,5 @@
 use Rattle.std.specs.Prelude.{◌≡◌, drop}
-use Rattle.watch_map.specs.ClauseList.{contents}
-use Rattle.watch_map.specs.Marks.{none_watched_false}
+use Rattle.watch_map.proofs.Words.{contents, none_watched_false}
 use Rattle.watch_map.proofs.clause_list.ClauseList.forget_false_from.Given as goal
 
 -- those that the rest leaves of what is left are those that are left in the end

@@ -1,9 +1,7 @@
 use Rattle.std.proofs.Common.{◌≡◌, ◌∙◌, List, Option, sym, ap, subst, map, length, arith}
 use Rattle.std.proofs.lemmas.Grind.{common_steps}
 use Rattle.std.proofs.lemmas.List.{length-map}
-use Rattle.decisions.specs.Literals.{Lit}
-use Rattle.watch_map.specs.Watching.{AreTwoOrNone}
-use Rattle.watch_map.specs.ClauseList.{Clauses, ClauseListState, contents, two_or_none}
+use Rattle.watch_map.proofs.Words.{AreTwoOrNone, ClauseListState, Clauses, contents, Lit, two_or_none}
 use Rattle.watch_map.proofs.ListLaws.{learnt_refused, two_of_ends}
 use Rattle.watch_map.proofs.clause_list.ClauseList.learn.Goals as goal
 

@@ -1,9 +1,5 @@
 use Rattle.std.proofs.Common.{◌≤◌, ◌+◌, ◌∙◌, List, sym, ap, subst, map, length}
-use Rattle.std.specs.Prelude.{vec_capacity}
-use Rattle.decisions.specs.Literals.{Lit}
-use Rattle.watch_map.specs.WatchCalls.{KeepsRoom}
-use Rattle.watch_map.specs.WatchLists.{AreUnwatchedBelow}
-use Rattle.watch_map.specs.ClauseList.{ClauseListState, contents}
+use Rattle.watch_map.proofs.Words.{AreUnwatchedBelow, ClauseListState, contents, KeepsRoom, Lit, vec_capacity}
 use Rattle.watch_map.proofs.ListLaws.{as_many_records, room_stays, seen_alike, still_kept, room_is_made}
 use Rattle.watch_map.proofs.clause_list.ClauseList.make_room.Goals as goal
 

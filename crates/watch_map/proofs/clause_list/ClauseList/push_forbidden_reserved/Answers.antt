@@ -1,5 +1,5 @@
 use Rattle.std.proofs.Common.{◌≡◌, ◌+◌, ◌-◌, length, ◌∙◌, arith, subst}
-use Rattle.watch_map.specs.ClauseList.{contents, literals_watched, HasRoomFor}
+use Rattle.watch_map.proofs.Words.{contents, HasRoomFor, literals_watched}
 use Rattle.watch_map.proofs.ListLaws.{room_for_item, one_forbidden_more}
 use Rattle.watch_map.proofs.clause_list.ClauseList.push_forbidden_reserved.Goals as goal
 

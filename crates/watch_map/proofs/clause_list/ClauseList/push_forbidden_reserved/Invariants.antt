@@ -1,5 +1,5 @@
 use Rattle.std.proofs.Common.{◌≡◌, ◌-◌, length, take}
-use Rattle.watch_map.specs.ClauseList.{contents, with_forbidden, HasRoomFor}
+use Rattle.watch_map.proofs.Words.{contents, HasRoomFor, with_forbidden}
 use Rattle.watch_map.proofs.clause_list.ClauseList.push_forbidden_reserved.Given as goal
 
 abbrev pub invariant-loop-clause : goal.invariant-loop-clause

@@ -1,10 +1,8 @@
 use Rattle.std.proofs.lemmas.Grind.{common_steps}
 use Rattle.std.proofs.Common.{◌≡◌, ◌+◌, ◌∙◌, sym, ap, subst, map, List, ◌++◌, ◌∷◌, [], length, length-append, arith}
-use Rattle.decisions.specs.Literals.{Lit}
-use Rattle.watch_map.specs.WatchLists.{AreWatched, AreUnwatchedBelow, literals_in}
-use Rattle.watch_map.specs.ClauseList.{IsClauseList, ClauseListState, contents, with_clause, literals_watched}
-use Rattle.watch_map.specs.ClauseList.{HasRoomFor}
-use Rattle.watch_map.specs.Walks.{StartsAtEnd}
+use Rattle.watch_map.proofs.Words.{AreUnwatchedBelow, AreWatched, ClauseListState, contents, HasRoomFor, IsClauseList}
+use Rattle.watch_map.proofs.Words.{Lit, literals_watched, StartsAtEnd, with_clause}
+use Rattle.watch_map.specs.WatchLists.{literals_in}
 use Rattle.watch_map.proofs.ListLaws.{contents_of, as_many_records, more_list, pushed_contents, room_after}
 use Rattle.watch_map.proofs.UnwatchedLaws.{below_longer}
 use Rattle.watch_map.proofs.clause_list.ClauseList.push_stored.Goals as goal

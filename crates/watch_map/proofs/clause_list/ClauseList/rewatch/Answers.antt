@@ -1,11 +1,8 @@
 use Rattle.std.proofs.Common.{◌≡◌, Bool, sym, ap, subst, ◌∙◌, map, List, length}
-use Rattle.std.specs.Prelude.{OnOk, OnErr, IfErr, IsTrue, if◌then◌else◌}
-use Rattle.typed_ids.specs.declared.error.StoreError.TheVariants.{OutOfMemory, BadWatch}
-use Rattle.decisions.specs.Literals.{Lit}
-use Rattle.watch_map.specs.WatchLists.{Watches, AreWatched, AreUnwatchedBelow}
-use Rattle.watch_map.specs.WatchCalls.{SameLists}
-use Rattle.watch_map.specs.ClauseList.{IsClauseList, ClauseListState, contents, with_rewatched}
-use Rattle.watch_map.specs.Walks.{IsRewatched, may_rewatch}
+use Rattle.std.specs.Prelude.{if◌then◌else◌}
+use Rattle.watch_map.proofs.Words.{AreUnwatchedBelow, AreWatched, BadWatch, ClauseListState, contents, IfErr}
+use Rattle.watch_map.proofs.Words.{IsClauseList, IsRewatched, IsTrue, Lit, may_rewatch, OnErr, OnOk, OutOfMemory}
+use Rattle.watch_map.proofs.Words.{SameLists, Watches, with_rewatched}
 use Rattle.watch_map.proofs.ListLaws.{contents_of, can_rewatch_is, after_rewatch, ok_rewatch, err_rewatch, whole}
 use Rattle.watch_map.proofs.UnwatchedLaws.{below_rewatched}
 use Rattle.watch_map.proofs.clause_list.ClauseList.rewatch.Goals as goal

@@ -1,15 +1,10 @@
 use Rattle.std.proofs.Common.{◌≡◌, ℕ, ◌≤◌, ◌^◌, ◌-◌, [], refl, sym, ap, subst, ◌∙◌, map, List, length}
-use Rattle.std.specs.Prelude.{IfOk, MatchOption}
-use Rattle.decisions.specs.Literals.{Lit}
-use Rattle.decisions.specs.Trail.{val}
-use Rattle.clauses.specs.declared.clause.Clause.{Clause}
-use Rattle.clauses.specs.Stored.{stored_in}
-use Rattle.watch_map.specs.Watching.{AreUnwatched}
-use Rattle.watch_map.specs.WatchLists.{Watches, AreWatched, AreUnwatchedBelow, literals_in, watched_by}
-use Rattle.watch_map.specs.ClauseList.{IsClauseList, ClauseListState, contents, watched_by as watches_of}
-use Rattle.watch_map.specs.Implication.{AreSettled, IsConflict}
-use Rattle.watch_map.specs.Saturation.{literals_from, literals_in_list, WatchOwn, IsRearranged, HasImplied}
-use Rattle.watch_map.specs.Marks.{AreMarks}
+use Rattle.watch_map.proofs.Words.{AreMarks, AreSettled, AreUnwatched, AreUnwatchedBelow, AreWatched, Clause}
+use Rattle.watch_map.proofs.Words.{ClauseListState, contents, HasImplied, IfOk, IsClauseList, IsConflict, IsRearranged}
+use Rattle.watch_map.proofs.Words.{Lit, literals_from, literals_in_list, MatchOption, stored_in, val, watched_by}
+use Rattle.watch_map.proofs.Words.{Watches, WatchOwn}
+use Rattle.watch_map.specs.WatchLists.{literals_in}
+use Rattle.watch_map.specs.ClauseList.{watched_by as watches_of}
 use Rattle.watch_map.proofs.ListCallerLaws.{watched_at}
 use Rattle.watch_map.proofs.ImplicationLaws.{forced_none}
 use Rattle.watch_map.proofs.ListLaws.{contents_of, as_many_records, still_list, whole}

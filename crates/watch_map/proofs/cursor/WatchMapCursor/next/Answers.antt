@@ -1,7 +1,5 @@
 use Rattle.std.proofs.Common.{◌∙◌, ◌++◌, ◌∷◌, [], sym, ap, subst}
-use Rattle.std.specs.Prelude.{IfSome}
-use Rattle.watch_map.specs.WatchLists.{Position, clause_of, literal_of}
-use Rattle.watch_map.specs.WatchCalls.{StandsIn, StandsBehind, passed, rest}
+use Rattle.watch_map.proofs.Words.{clause_of, IfSome, literal_of, passed, Position, rest, StandsBehind, StandsIn}
 use Rattle.watch_map.proofs.cursor.WatchMapCursor.next.Goals as goal
 
 pub next_place-requires : goal.next_place-requires

@@ -1,5 +1,5 @@
 use Rattle.std.proofs.Common.{refl, sym, subst, None, []}
-use Rattle.watch_map.specs.WatchLists.{link, IsChain, watchers}
+use Rattle.watch_map.proofs.Words.{IsChain, link, watchers}
 use Rattle.watch_map.proofs.CursorLaws.{next_watches_it, arrived}
 use Rattle.watch_map.proofs.lists.WatchMap.cursor.Goals as goal
 

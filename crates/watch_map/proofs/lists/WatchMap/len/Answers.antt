@@ -1,7 +1,5 @@
 use Rattle.std.proofs.Common.{subst, sym, ap, ◌∙◌}
-use Rattle.id_storage.specs.Mapping.{value_count}
-use Rattle.watch_map.specs.Watching.{IsListCount}
-use Rattle.watch_map.specs.WatchLists.{watchers}
+use Rattle.watch_map.proofs.Words.{IsListCount, value_count, watchers}
 use Rattle.watch_map.proofs.CountLaws.{firsts_counted}
 use Rattle.watch_map.proofs.lists.WatchMap.len.Goals as goal
 

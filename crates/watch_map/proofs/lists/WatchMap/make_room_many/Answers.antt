@@ -1,6 +1,5 @@
 use Rattle.std.proofs.Common.{◌<◌, ◌≤◌, length, arith, sym, subst, ap, ◌∙◌}
-use Rattle.id_storage.specs.Mapping.{value_at, slots_for}
-use Rattle.decisions.specs.LiteralIndex.{literal_index}
+use Rattle.watch_map.proofs.Words.{literal_index, slots_for, value_at}
 use Rattle.watch_map.proofs.StartLaws.{same_lists, room_by_length, no_fewer_slots, room_in_slots}
 use Rattle.watch_map.proofs.LinkLaws.{slot_within}
 use Rattle.watch_map.proofs.lists.WatchMap.make_room_many.Goals as goal

@@ -1,5 +1,5 @@
 use Rattle.std.proofs.Common.{◌≡◌, ◌<◌, ◌∙◌, false, true, length, ap, subst, sym}
-use Rattle.decisions.specs.LiteralIndex.{literal_index}
+use Rattle.watch_map.proofs.Words.{literal_index}
 use Rattle.watch_map.proofs.LinkLaws.{slot_within}
 use Rattle.watch_map.proofs.lists.WatchMap.put_first.Goals as goal
 

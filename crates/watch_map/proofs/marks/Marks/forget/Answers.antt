@@ -1,8 +1,7 @@
 use Rattle.std.proofs.Common.{◌<◌, length, sym, ◌∙◌, arith}
-use Rattle.std.specs.Prelude.{nat_lt}
 use Rattle.std.proofs.lemmas.Bool.{and_parts}
 use Rattle.std.proofs.lemmas.Bool.Decides.{nat_tests}
-use Rattle.watch_map.specs.Marks.{newest_mark, is_from}
+use Rattle.watch_map.proofs.Words.{is_from, nat_lt, newest_mark}
 use Rattle.watch_map.proofs.StackLaws.{below_step, below_done, fewer}
 use Rattle.watch_map.proofs.marks.Marks.forget.Goals as goal
 

@@ -1,5 +1,5 @@
 use Rattle.std.specs.Prelude.{◌≡◌, length}
-use Rattle.watch_map.specs.Marks.{marks_below}
+use Rattle.watch_map.proofs.Words.{marks_below}
 use Rattle.watch_map.proofs.marks.Marks.forget.Given as goal
 
 abbrev pub invariant-loop-limit : goal.invariant-loop-limit

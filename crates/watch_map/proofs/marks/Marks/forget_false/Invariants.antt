@@ -1,5 +1,5 @@
 use Rattle.std.specs.Prelude.{◌≡◌, take}
-use Rattle.watch_map.specs.Marks.{none_false_at}
+use Rattle.watch_map.proofs.Words.{none_false_at}
 use Rattle.watch_map.proofs.marks.Marks.forget_false.Given as goal
 
 abbrev pub invariant-loop-literal : goal.invariant-loop-literal

@@ -1,9 +1,6 @@
 use Rattle.std.proofs.Common.{◌≡◌, sym, ap, ◌∙◌}
 use Rattle.std.specs.Prelude.{◌&&◌, false}
-use Rattle.decisions.specs.Literals.{Values, variable_of, is_false_literal}
-use Rattle.decisions.specs.Trail.{val, level_of}
-use Rattle.watch_map.specs.Marks.{is_from}
-use Rattle.watch_map.specs.declared.marks.Limit.TheVariants.{Level}
+use Rattle.watch_map.proofs.Words.{is_false_literal, is_from, Level, level_of, val, Values, variable_of}
 use Rattle.watch_map.proofs.StackLaws.{filter_none}
 use Rattle.watch_map.proofs.marks.Marks.forget_literal.Goals as goal
 

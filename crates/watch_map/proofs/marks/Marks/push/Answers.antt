@@ -1,9 +1,8 @@
 use Rattle.std.proofs.Common.{List, sym, subst}
-use Rattle.std.specs.Prelude.{All, not}
+use Rattle.std.specs.Prelude.{not}
 use Rattle.std.proofs.lemmas.List.Elements.{All-filter}
-use Rattle.watch_map.specs.Marks.{is_from, marks_below, IsBehind, newest_mark}
-use Rattle.watch_map.specs.declared.marks.Mark.{Mark}
-use Rattle.watch_map.specs.declared.marks.Limit.TheVariants.{Place}
+use Rattle.watch_map.proofs.Words.{All, is_from, Mark, marks_below, newest_mark, Place}
+use Rattle.watch_map.specs.Marks.{IsBehind}
 use Rattle.watch_map.proofs.StackLaws.{all_behind}
 use Rattle.watch_map.proofs.marks.Marks.push.Goals as goal
 

@@ -1,6 +1,6 @@
 use Rattle.std.proofs.Common.{◌≡◌, ◌<◌, ◌≤◌, length, take, sym, ap, subst, ◌∙◌, arith}
 use Rattle.std.proofs.lemmas.Option.{get_or_from_slice_get}
-use Rattle.decisions.specs.Trail.{level_of}
+use Rattle.watch_map.proofs.Words.{level_of}
 use Rattle.watch_map.proofs.MarkLaws.{levels_more, levels_split}
 use Rattle.watch_map.proofs.RoundLaws.{has_entry, decision_at, as_many_decisions}
 use Rattle.watch_map.proofs.saturation.marking.highest_level.Goals as goal

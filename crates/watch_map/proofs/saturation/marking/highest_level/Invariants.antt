@@ -1,5 +1,5 @@
 use Rattle.std.specs.Prelude.{◌≤◌, ℕ, take}
-use Rattle.decisions.specs.Trail.{level_of}
+use Rattle.watch_map.proofs.Words.{level_of}
 use Rattle.watch_map.proofs.saturation.marking.highest_level.Given as goal
 
 abbrev pub invariant-loop-index : goal.invariant-loop-index

@@ -1,10 +1,6 @@
 use Rattle.std.proofs.Common.{length, take, sym, subst, arith}
-use Rattle.decisions.specs.Decisions.{values_in}
-use Rattle.decisions.specs.Literals.{Values}
-use Rattle.watch_map.specs.WatchLists.{watched_by}
-use Rattle.decisions.specs.Trail.{val}
-use Rattle.watch_map.specs.Visits.{literals_at, AreUnwatchedTrue, AreAllTrue}
-use Rattle.watch_map.specs.Marks.{IsMark}
+use Rattle.watch_map.proofs.Words.{AreAllTrue, AreUnwatchedTrue, IsMark, val, Values, values_in, watched_by}
+use Rattle.watch_map.specs.Visits.{literals_at}
 use Rattle.watch_map.proofs.MarkLaws.{mark_made, mark_unwatched}
 use Rattle.watch_map.proofs.RoundLaws.{as_many_decisions}
 use Rattle.watch_map.proofs.UnwatchedLaws.{first_are_true, true_up_to}

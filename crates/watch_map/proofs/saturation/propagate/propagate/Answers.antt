@@ -1,8 +1,5 @@
 use Rattle.std.proofs.Common.{◌<◌, [], length, sym, ◌∙◌, arith}
-use Rattle.decisions.specs.Trail.{val}
-use Rattle.watch_map.specs.WatchLists.{watched_by}
-use Rattle.watch_map.specs.Implication.{IsConflict}
-use Rattle.watch_map.specs.WatchInvariant.{AreWatchesSatisfiedBut, val_before}
+use Rattle.watch_map.proofs.Words.{AreWatchesSatisfiedBut, IsConflict, val, val_before, watched_by}
 use Rattle.watch_map.specs.Visits.{literals_at}
 use Rattle.watch_map.proofs.InputLaws.{given_within}
 use Rattle.watch_map.proofs.ValueLaws.{before_extends, extends_self}

@@ -1,6 +1,5 @@
 use Rattle.std.specs.Prelude.{◌+◌, ◌-◌, length}
-use Rattle.decisions.specs.Trail.{val}
-use Rattle.watch_map.specs.WatchLists.{watched_by}
+use Rattle.watch_map.proofs.Words.{val, watched_by}
 use Rattle.watch_map.specs.Visits.{literals_at}
 use Rattle.watch_map.proofs.OpenClauses.{count_open}
 use Rattle.watch_map.proofs.RoundLaws.{IsPropagated}

@@ -1,7 +1,5 @@
 use Rattle.std.proofs.Common.{◌≡◌, ◌∙◌, sym, ap, subst, true}
-use Rattle.decisions.specs.Literals.{is_false_literal}
-use Rattle.decisions.specs.Trail.{val}
-use Rattle.watch_map.specs.WatchInvariant.{refuted_literal}
+use Rattle.watch_map.proofs.Words.{is_false_literal, refuted_literal, val}
 use Rattle.watch_map.proofs.ValueLaws.{val_at, refuted_is_false}
 use Rattle.watch_map.proofs.RoundLaws.{has_entry, decision_at}
 use Rattle.watch_map.proofs.saturation.propagate.refuted_at.Goals as goal

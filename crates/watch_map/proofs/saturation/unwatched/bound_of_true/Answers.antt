@@ -1,8 +1,6 @@
 use Rattle.std.proofs.Common.{◌≡◌, ◌<◌, true, sym, subst, ◌∙◌, take_all, arith}
-use Rattle.std.specs.Prelude.{All}
-use Rattle.decisions.specs.Decisions.{values_in}
-use Rattle.watch_map.specs.WatchInvariant.{is_true}
-use Rattle.watch_map.specs.Visits.{literals_at, AreAllTrue}
+use Rattle.watch_map.proofs.Words.{All, AreAllTrue, is_true, values_in}
+use Rattle.watch_map.specs.Visits.{literals_at}
 use Rattle.watch_map.proofs.UnwatchedLaws.{one_more, below_here}
 use Rattle.watch_map.proofs.saturation.unwatched.bound_of_true.Goals as goal
 

@@ -1,6 +1,6 @@
 use Rattle.std.specs.Prelude.{take}
-use Rattle.decisions.specs.Decisions.{values_in}
-use Rattle.watch_map.specs.Visits.{literals_at, AreAllTrue}
+use Rattle.watch_map.proofs.Words.{AreAllTrue, values_in}
+use Rattle.watch_map.specs.Visits.{literals_at}
 use Rattle.watch_map.proofs.saturation.unwatched.bound_of_true.Given as goal
 
 abbrev pub invariant-loop-place : goal.invariant-loop-place

@@ -1,5 +1,5 @@
 use Rattle.std.proofs.Common.{◌≡◌, ◌+◌, ◌-◌, ◌<◌, take, subst, arith}
-use Rattle.std.specs.Prelude.{All}
+use Rattle.watch_map.proofs.Words.{All}
 use Rattle.watch_map.proofs.UnwatchedLaws.{up_to_here}
 use Rattle.watch_map.proofs.saturation.unwatched.count_before.Goals as goal
 

@@ -1,9 +1,5 @@
 use Rattle.std.proofs.Common.{◌≡◌, not, ◌&&◌, sym, ◌∙◌, rules, tests}
-use Rattle.std.specs.Prelude.{find}
-use Rattle.decisions.specs.Decisions.{values_in}
-use Rattle.decisions.specs.Literals.{is_false_literal}
-use Rattle.clauses.specs.Clauses.{literals_of, same_literal}
-use Rattle.clauses.specs.Stored.{stored_in}
+use Rattle.watch_map.proofs.Words.{find, is_false_literal, literals_of, same_literal, stored_in, values_in}
 use Rattle.watch_map.proofs.VisitLaws.{find_none, find_true, find_second, find_only}
 use Rattle.watch_map.proofs.saturation.unwatched.find_unit.Goals as goal
 

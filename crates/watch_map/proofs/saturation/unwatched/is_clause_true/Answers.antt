@@ -1,9 +1,6 @@
 use Rattle.std.proofs.Common.{◌≡◌, sym, ap, ◌∙◌, rules, tests}
-use Rattle.std.specs.Prelude.{find, is_some}
-use Rattle.decisions.specs.Decisions.{values_in}
-use Rattle.clauses.specs.Clauses.{literals_of}
-use Rattle.clauses.specs.Stored.{stored_in}
-use Rattle.watch_map.specs.WatchInvariant.{is_true_literal, is_true}
+use Rattle.std.specs.Prelude.{is_some}
+use Rattle.watch_map.proofs.Words.{find, is_true, is_true_literal, literals_of, stored_in, values_in}
 use Rattle.watch_map.proofs.InputLaws.{literals_there, literals_nowhere}
 use Rattle.watch_map.proofs.LiteralLists.{found_any}
 use Rattle.watch_map.proofs.saturation.unwatched.is_clause_true.Goals as goal

@@ -1,7 +1,6 @@
 use Rattle.std.proofs.Common.{take, take_all, sym, subst, arith}
-use Rattle.decisions.specs.Trail.{val}
-use Rattle.watch_map.specs.Implication.{IsSettled}
-use Rattle.watch_map.specs.Visits.{literals_at, AreAllSettled}
+use Rattle.watch_map.proofs.Words.{AreAllSettled, IsSettled, val}
+use Rattle.watch_map.specs.Visits.{literals_at}
 use Rattle.watch_map.proofs.ImplicationLaws.{forced_none, forced_then}
 use Rattle.watch_map.proofs.UnwatchedLaws.{true_are_settled}
 use Rattle.watch_map.proofs.RoundLaws.{one_more_visited}

@@ -1,7 +1,6 @@
 use Rattle.std.specs.Prelude.{◌≡◌, length, take}
-use Rattle.decisions.specs.Trail.{val}
-use Rattle.watch_map.specs.Saturation.{HasImplied}
-use Rattle.watch_map.specs.Visits.{literals_at, AreAllSettled}
+use Rattle.watch_map.proofs.Words.{AreAllSettled, HasImplied, val}
+use Rattle.watch_map.specs.Visits.{literals_at}
 use Rattle.watch_map.proofs.saturation.unwatched.visit_all_unwatched.Given as goal
 
 abbrev pub invariant-loop-index : goal.invariant-loop-index

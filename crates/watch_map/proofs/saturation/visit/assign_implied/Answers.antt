@@ -1,8 +1,6 @@
 use Rattle.std.proofs.Common.{◌≡◌, true, sym, ap, subst, ◌∙◌}
-use Rattle.decisions.specs.declared.decision.Decision.{Decision}
-use Rattle.decisions.specs.Trail.{Trail, val}
+use Rattle.watch_map.proofs.Words.{Decision, is_true_literal, Trail, val}
 use Rattle.watch_map.specs.Visits.{literals_at}
-use Rattle.watch_map.specs.WatchInvariant.{is_true_literal}
 use Rattle.watch_map.proofs.ImplicationLaws.{forces_parts, deciding_open, deciding_true}
 use Rattle.watch_map.proofs.saturation.visit.assign_implied.Goals as goal
 

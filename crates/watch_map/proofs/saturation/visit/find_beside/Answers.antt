@@ -1,8 +1,5 @@
 use Rattle.std.proofs.Common.{sym, rules, tests}
-use Rattle.decisions.specs.Decisions.{values_in}
-use Rattle.clauses.specs.Clauses.{literals_of}
-use Rattle.clauses.specs.Stored.{stored_in}
-use Rattle.watch_map.specs.Visits.{may_watch}
+use Rattle.watch_map.proofs.Words.{literals_of, may_watch, stored_in, values_in}
 use Rattle.watch_map.proofs.VisitLaws.{none_left}
 use Rattle.watch_map.proofs.saturation.visit.find_beside.Goals as goal
 

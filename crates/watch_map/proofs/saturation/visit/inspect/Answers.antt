@@ -1,14 +1,9 @@
 use Rattle.std.proofs.Common.{rules, ◌≡◌, true, false, ◌∷◌, [], refl, sym, ap, subst, ◌∙◌}
-use Rattle.std.specs.Prelude.{find}
-use Rattle.decisions.specs.Decisions.{values_in}
-use Rattle.decisions.specs.Literals.{known_true, known_false, is_false_literal}
-use Rattle.clauses.specs.Clauses.{literals_of}
-use Rattle.clauses.specs.Stored.{stored_in}
-use Rattle.watch_map.specs.Watching.{is_literal_in}
-use Rattle.watch_map.specs.WatchLists.{literals_in, watched_by}
-use Rattle.watch_map.specs.Implication.{is_false}
-use Rattle.watch_map.specs.WatchInvariant.{is_true_literal}
-use Rattle.watch_map.specs.Visits.{literals_at, may_watch, IsWatching, MayWatch, ImpliesOther}
+use Rattle.watch_map.proofs.Words.{find, ImpliesOther, is_false, is_false_literal, is_literal_in, is_true_literal}
+use Rattle.watch_map.proofs.Words.{IsWatching, known_false, known_true, literals_of, may_watch, MayWatch, stored_in}
+use Rattle.watch_map.proofs.Words.{values_in, watched_by}
+use Rattle.watch_map.specs.WatchLists.{literals_in}
+use Rattle.watch_map.specs.Visits.{literals_at}
 use Rattle.watch_map.proofs.LiteralLists.{read_in}
 use Rattle.watch_map.proofs.InputLaws.{literals_there, literals_nowhere}
 use Rattle.watch_map.proofs.ValueLaws.{compared, false_if_not_true, none_not_false}

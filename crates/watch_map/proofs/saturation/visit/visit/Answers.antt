@@ -1,8 +1,5 @@
 use Rattle.std.proofs.Common.{◌≡◌, true, subst}
-use Rattle.decisions.specs.Literals.{Values}
-use Rattle.decisions.specs.Trail.{val}
-use Rattle.watch_map.specs.WatchLists.{watched_by}
-use Rattle.watch_map.specs.Implication.{is_unit}
+use Rattle.watch_map.proofs.Words.{is_unit, val, Values, watched_by}
 use Rattle.watch_map.specs.Visits.{literals_at}
 use Rattle.watch_map.proofs.SatisfiedLaws.{beside_from}
 use Rattle.watch_map.proofs.saturation.visit.visit.Goals as goal

@@ -1,11 +1,7 @@
 use Rattle.std.proofs.Common.{◌≡◌, ◌<◌, ◌∷◌, [], true, length, ap, sym, subst, ◌∙◌}
-use Rattle.decisions.specs.Trail.{val}
-use Rattle.watch_map.specs.WatchLists.{Position, watched_by, watchers}
-use Rattle.watch_map.specs.Implication.{is_false}
-use Rattle.watch_map.specs.WatchCalls.{IsReached, passed, rest}
-use Rattle.watch_map.specs.WatchInvariant.{AreWatchesSatisfiedBut, has_true_beside}
-use Rattle.watch_map.specs.Visits.{literals_at, IsVisit, MayWatch}
-use Rattle.watch_map.specs.declared.saturation.visit.VisitOutcome.{VisitOutcome}
+use Rattle.watch_map.proofs.Words.{AreWatchesSatisfiedBut, has_true_beside, is_false, IsReached, IsVisit, MayWatch}
+use Rattle.watch_map.proofs.Words.{passed, Position, rest, val, VisitOutcome, watched_by, watchers}
+use Rattle.watch_map.specs.Visits.{literals_at}
 use Rattle.watch_map.proofs.LiteralLists.{read_in}
 use Rattle.watch_map.proofs.InputLaws.{given_within}
 use Rattle.watch_map.proofs.CursorLaws.{reached_watches}

@@ -1,5 +1,5 @@
 use Rattle.std.specs.Prelude.{length}
-use Rattle.watch_map.specs.WatchLists.{watched_by, watchers}
+use Rattle.watch_map.proofs.Words.{watched_by, watchers}
 use Rattle.watch_map.specs.Visits.{literals_at}
 use Rattle.watch_map.proofs.WalkLaws.{ahead_of, IsBehind, IsWalked}
 use Rattle.watch_map.proofs.saturation.walk.walk.Given as goal

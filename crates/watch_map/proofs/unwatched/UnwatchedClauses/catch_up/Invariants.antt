@@ -1,5 +1,5 @@
 use Rattle.std.specs.Prelude.{◌-◌, length}
-use Rattle.watch_map.specs.WatchLists.{AreUnwatchedBelow}
+use Rattle.watch_map.proofs.Words.{AreUnwatchedBelow}
 use Rattle.watch_map.proofs.unwatched.UnwatchedClauses.catch_up.Given as goal
 
 abbrev pub invariant-records : goal.invariant-records

@@ -1,11 +1,7 @@
 use Rattle.std.proofs.Common.{◌≡◌, ◌-◌, not, ◌&&◌, false, Some, None, cond, sym, ap, ◌∙◌, arith, rules, tests}
-use Rattle.std.specs.Prelude.{find, slice_get}
-use Rattle.std.specs.Option.{option_map_or}
 use Rattle.std.proofs.lemmas.Option.{slice_get_read}
-use Rattle.decisions.specs.Decisions.{values_in}
-use Rattle.decisions.specs.Literals.{is_false_literal}
-use Rattle.clauses.specs.Clauses.{literals_of, same_literal}
-use Rattle.clauses.specs.Stored.{stored_in}
+use Rattle.watch_map.proofs.Words.{find, is_false_literal, literals_of, option_map_or, same_literal, slice_get}
+use Rattle.watch_map.proofs.Words.{stored_in, values_in}
 use Rattle.watch_map.proofs.watched_literals.WatchedLiterals.next_unwatched_literal.Goals as goal
 
 pub returns : goal.returns

@@ -1,11 +1,8 @@
 use Rattle.std.proofs.Common.{◌≡◌, not, ◌&&◌, true, sym, ap, ◌∙◌, rules, tests}
-use Rattle.std.specs.Prelude.{find, is_some}
-use Rattle.std.specs.Option.{option_or}
-use Rattle.decisions.specs.Decisions.{values_in}
-use Rattle.decisions.specs.Literals.{Neg, known_false, is_false_literal}
-use Rattle.decisions.specs.Trail.{val}
-use Rattle.clauses.specs.Clauses.{watch_beside, first_not_false}
+use Rattle.std.specs.Prelude.{is_some}
 use Rattle.clauses.specs.Walks.{literals_in}
+use Rattle.watch_map.proofs.Words.{find, first_not_false, is_false_literal, known_false, Neg, option_or, val, values_in}
+use Rattle.watch_map.proofs.Words.{watch_beside}
 use Rattle.watch_map.proofs.WatchLemmas.{first_or, met_by_parent}
 use Rattle.watch_map.proofs.watched_literals.WatchedLiterals.requires_others.Goals as goal
 

@@ -1,6 +1,5 @@
 use Rattle.std.proofs.Common.{subst, sym, take}
-use Rattle.falsified_clauses.specs.Counts.{IsReady}
-use Rattle.resolvo_store.specs.Counted.{Counting, Follows, false_by}
+use Rattle.resolvo_store.proofs.Words.{Counting, false_by, Follows, IsReady}
 use Rattle.resolvo_store.proofs.store.counting.TrailCounters.add.Goals as goal
 
 pub returns-clause-follows : goal.returns-clause-follows

@@ -2,9 +2,7 @@ use Rattle.std.proofs.Common.{◌≡◌, ◌+◌, ◌<◌, ◌∙◌, ap, subst,
 use Rattle.std.specs.Prelude.{slice_get}
 use Rattle.std.proofs.lemmas.List.{length-map}
 use Rattle.std.proofs.lemmas.Option.{slice_get_read}
-use Rattle.falsified_clauses.specs.Clauses.{Counted, with_false}
-use Rattle.falsified_clauses.specs.Counts.{Counts}
-use Rattle.resolvo_store.specs.Counted.{Follows, false_by}
+use Rattle.resolvo_store.proofs.Words.{Counted, Counts, false_by, Follows, with_false}
 use Rattle.resolvo_store.specs.contracts.store.counting.TrailCounters.catch_up.{A-type}
 use Rattle.resolvo_store.proofs.CountedLemmas.{counts_next}
 use Rattle.resolvo_store.proofs.store.counting.TrailCounters.catch_up.Goals as goal

@@ -1,7 +1,5 @@
 use Rattle.std.specs.Prelude.{◌≡◌, take}
-use Rattle.falsified_clauses.specs.Clauses.{Counted}
-use Rattle.falsified_clauses.specs.Counts.{Counts}
-use Rattle.resolvo_store.specs.Counted.{Follows, false_by}
+use Rattle.resolvo_store.proofs.Words.{Counted, Counts, false_by, Follows}
 use Rattle.resolvo_store.specs.contracts.store.counting.TrailCounters.catch_up.{A-type}
 use Rattle.resolvo_store.proofs.store.counting.TrailCounters.catch_up.Given as goal
 

@@ -3,7 +3,7 @@ use Rattle.std.specs.Prelude.{slice_get}
 use Rattle.std.proofs.lemmas.Bool.{ltb-false}
 use Rattle.std.proofs.lemmas.List.{length-map}
 use Rattle.std.proofs.lemmas.Option.{slice_get_read}
-use Rattle.resolvo_store.specs.Counted.{Counting}
+use Rattle.resolvo_store.proofs.Words.{Counting}
 use Rattle.resolvo_store.proofs.CountedLemmas.{decision_level, stays_below}
 use Rattle.resolvo_store.proofs.store.counting.TrailCounters.is_above.Goals as goal
 

@@ -1,10 +1,7 @@
 use Rattle.std.proofs.Common.{◌≡◌, ◌∙◌, ap, subst, sym, length, Result, Ok, Err}
-use Rattle.std.specs.Prelude.{List, IfOk}
-use Rattle.decisions.specs.Decisions.{values_in}
-use Rattle.decisions.specs.Literals.{is_false_literal}
-use Rattle.falsified_clauses.specs.Clauses.{PlacedDemand, counted}
-use Rattle.falsified_clauses.specs.Counts.{Counts}
-use Rattle.resolvo_store.specs.Counted.{Counting, Follows, no_false}
+use Rattle.std.specs.Prelude.{List}
+use Rattle.resolvo_store.proofs.Words.{counted, Counting, Counts, Follows, IfOk, is_false_literal, no_false}
+use Rattle.resolvo_store.proofs.Words.{PlacedDemand, values_in}
 use Rattle.resolvo_store.specs.contracts.store.counting.TrailCounters.prepare.{A-type}
 use Rattle.resolvo_store.proofs.CountedLemmas.{counts_all, follows_all}
 use Rattle.resolvo_store.proofs.store.counting.TrailCounters.prepare.Given.{Over}

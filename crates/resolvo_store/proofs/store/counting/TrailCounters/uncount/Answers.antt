@@ -2,9 +2,7 @@ use Rattle.std.proofs.Common.{◌≡◌, ◌+◌, ◌-◌, ◌<◌, ◌∙◌, a
 use Rattle.std.specs.Prelude.{slice_get}
 use Rattle.std.proofs.lemmas.List.{length-map}
 use Rattle.std.proofs.lemmas.Option.{slice_get_read}
-use Rattle.falsified_clauses.specs.Clauses.{with_undecided}
-use Rattle.falsified_clauses.specs.Counts.{Counts}
-use Rattle.resolvo_store.specs.Counted.{Counting, Follows, false_by}
+use Rattle.resolvo_store.proofs.Words.{Counting, Counts, false_by, Follows, with_undecided}
 use Rattle.resolvo_store.proofs.CountedLemmas.{counts_before}
 use Rattle.resolvo_store.proofs.store.counting.TrailCounters.uncount.Goals as goal
 

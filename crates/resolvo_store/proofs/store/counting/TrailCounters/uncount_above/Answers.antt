@@ -1,4 +1,4 @@
-use Rattle.decisions.specs.Trail.{entries_until}
+use Rattle.resolvo_store.proofs.Words.{entries_until}
 use Rattle.resolvo_store.proofs.CountedLemmas.{follows_less}
 use Rattle.resolvo_store.proofs.SyncedLemmas.{kept_front}
 use Rattle.resolvo_store.proofs.store.counting.TrailCounters.uncount_above.Goals as goal

@@ -1,6 +1,5 @@
 use Rattle.std.specs.Prelude.{◌≡◌, ◌≤◌, length}
-use Rattle.falsified_clauses.specs.Clauses.{Counted}
-use Rattle.resolvo_store.specs.Counted.{Follows}
+use Rattle.resolvo_store.proofs.Words.{Counted, Follows}
 use Rattle.resolvo_store.specs.contracts.store.counting.TrailCounters.uncount_above.{A-type}
 use Rattle.resolvo_store.proofs.store.counting.TrailCounters.uncount_above.Given as goal
 
