@@ -88,22 +88,16 @@ class Package:
             return other.get("Multi-Arch") == "allowed"
         return other.architecture == relation.qualifier
 
+    def groups(self, *fields):
+        return [group for field in fields for group in parts_of(self.get(field), ",")]
+
+    def is_group_met(self, group, there):
+        """Whether one of these packages meets an alternative of a group."""
+        return any(self.is_met_by(relation, other) for relation in map(Relation, group.split("|")) for other in there)
+
     def is_met(self, there):
         """Whether what this package depends on is there."""
-        return all(
-            any(self.is_met_by(relation, other) for relation in map(Relation, group.split("|")) for other in there)
-            for field in ("Pre-Depends", "Depends")
-            for group in parts_of(self.get(field), ",")
-        )
-
-    def brings_in(self, other):
-        """Whether this package depends on another, or recommends it."""
-        return any(
-            self.is_met_by(relation, other)
-            for field in ("Pre-Depends", "Depends", "Recommends")
-            for group in parts_of(self.get(field), ",")
-            for relation in map(Relation, group.split("|"))
-        )
+        return all(self.is_group_met(group, there) for group in self.groups("Pre-Depends", "Depends"))
 
     def is_free(self, there):
         """Whether nothing of another name is there that this package conflicts with."""
@@ -168,21 +162,41 @@ class Scenario:
         """The names of which a version has to be there."""
         return self.asked | {it.full_name for it in self.packages if self.must_stay(it)}
 
+    def are_installable(self, there):
+        """Whether these packages may be there together, and no others."""
+        pairs = ((one, other) for place, one in enumerate(there) for other in there[:place])
+        return all(one.fits(other) for one, other in pairs) and all(it.is_met(there) and it.is_free(there) for it in there)
+
     def is_answer(self, there):
         """Whether these packages are an answer."""
-        pairs = ((one, other) for place, one in enumerate(there) for other in there[:place])
         return (
             all(map(self.may_be_picked, there))
             and self.needed() <= {it.full_name for it in there}
-            and all(one.fits(other) for one, other in pairs)
-            and all(it.is_met(there) and it.is_free(there) for it in there)
+            and self.are_installable(there)
+        )
+
+    def kept(self):
+        """The names that are to keep a version, if that can be."""
+        automatic = {it.full_name for it in self.packages if it.says("Installed") and it.says("APT-Automatic")}
+        return self.installed - self.gone - (automatic if self.says("Autoremove") else set())
+
+    def keeps_more(self, there, names):
+        """Whether these packages have all these names of what is to be kept, and another one."""
+        return names < self.kept() & {it.full_name for it in there}
+
+    def brings_in(self, one, other, before):
+        """Whether a package depends on another one, or recommends it and is of a new name; and nothing before the other
+        one meets that."""
+        fields = ["Pre-Depends", "Depends"] + ["Recommends"] * (one.full_name not in self.installed)
+        return any(
+            one.is_group_met(group, [other]) and not one.is_group_met(group, before) for group in one.groups(*fields)
         )
 
     def without_cause(self, there):
-        """Those of these packages that neither the request nor what is installed brings in, at any number of steps."""
-        caused = [it for it in there if it.full_name in self.installed | self.asked]
-        left = [it for it in there if it not in caused]
-        for one in caused:
-            caused += [it for it in left if one.brings_in(it)]
-            left = [it for it in left if it not in caused]
-        return left
+        """Those of these packages that neither the request nor what is installed names, nor one before them brings in."""
+        return [
+            it
+            for place, it in enumerate(there)
+            if it.full_name not in self.installed | self.asked
+            and not any(self.brings_in(one, it, there[:place]) for one in there[:place])
+        ]

@@ -30,6 +30,19 @@ ROWS = [
         ],
         "+0 +1 +3",
     ),
+    # an installed package brings in nothing that it recommends; nor does a new one, if a dependency meets that
+    (
+        "Install: a:amd64",
+        [
+            "a amd64 1 APT-Candidate: yes; Depends: b; Recommends: d | c",
+            "b amd64 1 APT-Candidate: yes; Depends: c",
+            "c amd64 1 APT-Candidate: yes",
+            "d amd64 1 APT-Candidate: yes; Conflicts: b",
+            "e amd64 1 Installed: yes; Recommends: f",
+            "f amd64 1 APT-Candidate: yes",
+        ],
+        "+0 +1 +2",
+    ),
     # what is provided with a version, and what without
     (
         "Install: a:amd64",
@@ -110,6 +123,19 @@ ROWS = [
         ["a amd64 1 Installed: yes", "b amd64 1 Installed: yes; Depends: a; Essential: yes"],
         " requested: b\n b 1 needs a, which can't be picked",
     ),
+    # where something has to go, all else stays: two that need each other, and what recommends what goes
+    (
+        "Install: a:amd64\nRemove: e:amd64",
+        [
+            "a amd64 1 APT-Candidate: yes; Conflicts: b",
+            "b amd64 1 Installed: yes",
+            "c amd64 1 Installed: yes; Depends: d",
+            "d amd64 1 Installed: yes; Depends: c; Recommends: b",
+            "e amd64 1 Installed: yes",
+            "f amd64 1 Installed: yes; Depends: b | e",
+        ],
+        "+0 -1 -4 -5",
+    ),
     # automatic packages
     (
         "Autoremove: yes",
@@ -146,6 +172,7 @@ REFUSED = [
     REQUEST + "\nPackage: a\nArchitecture: amd64\nVersion: 1\nAPT-ID: 1\n",
     REQUEST + "\n" + REQUEST + "\n",
     "Package: a\nArchitecture: amd64\nVersion: 1\nAPT-ID: 1\n\n",
+    "Request: EIPP 0.1\nArchitecture: amd64\n\n",
     "\0\u0001:\u007f\n\n",
 ]
 

@@ -1,15 +1,19 @@
 -- Packages that have a cause.
-use Rattle.std.proofs.Common.{◌≡◌, ◌∙◌, ℕ, ◌<◌, ◌+◌, ◌||◌, Bool, true, false, List, Some, ap, arith, get_or, inl, inr}
+use Rattle.std.proofs.Common.{◌≡◌, ◌∙◌, ℕ, ◌<◌, ◌+◌, ◌++◌, ◌∷◌, ◌||◌, [], Bool, true, false, List, Some, ap, arith}
+use Rattle.std.proofs.Common.{get_or}
+use Rattle.std.proofs.Common.{inl, inr}
 use Rattle.std.proofs.Common.{length, map, refl, subst, sym}
 use Rattle.std.specs.Prelude.{option_map, slice_get, take}
+use Rattle.std.specs.List.{list_any}
 use Rattle.std.proofs.lemmas.Bool.{cases_lt}
-use Rattle.std.proofs.lemmas.List.{length-map, take-map}
+use Rattle.std.proofs.lemmas.List.{length-map, length-take-le, map-append, take-map, take_at, take_more}
 use Rattle.std.proofs.lemmas.Option.{same_Some, slice_get-get_or, slice_get-map, slice_get_within}
 use Rattle.debian_scenario.specs.Packages.{PackageText}
 use Rattle.debian_scenario.specs.Plain.{plain_package}
 use Rattle.debian_scenario.specs.Requests.{RequestText}
 use Rattle.debian_scenario.specs.declared.package.Package.{Package}
-use Rattle.apt_solver.specs.Causes.{HaveCauses, has_cause}
+use Rattle.debian_directory.specs.Answers.{is_asked, is_name_installed, name_of}
+use Rattle.apt_solver.specs.Causes.{HaveCauses, brings_in, has_cause}
 
 -- one of three
 pub first_so : (a b c : Bool) → a ≡ true → (a || b || c) ≡ true
@@ -60,14 +64,44 @@ module _ (request : RequestText) (packages : List PackageText) (there : List Pac
             (subst (λ (r : PackageText). has_cause request packages (take bound texts) r ≡ true) is caused)
       ]
 
-  -- those before a place are the first ones
-  pub by_those_before : (before : List Package) (place : ℕ) → before ≡ take place there → (q : PackageText)
-      → has_cause request packages (map plain_package before) q ≡ true
-      → has_cause request packages (take place texts) q ≡ true
-  by_those_before before place same q caused =
-      subst (λ (l : List PackageText). has_cause request packages l q ≡ true)
-      (ap (map plain_package) same ∙ sym (take-map plain_package place there)) caused
-
   pub all_have : (bound : ℕ) → (bound < length there → ⊥) → HaveCausesBefore bound → HaveCauses request packages texts
   all_have bound past so_far place q at =
       so_far place q (omega (arith, past, slice_get_within texts place q at, length-map there plain_package)) at
+
+-- the packages up to a place, and those before it
+module _ (those there : List Package) (place : ℕ) (d : Package) (within : place < length those)
+    (first : there ≡ take (place + 1) those) where
+  abbrev last : Package
+  last = get_or those place d
+
+  split : there ≡ take place those ++ last ∷ []
+  split = first ∙ take_more those place d within
+
+  earlier : take place there ≡ take place those
+  earlier = ap (take place) split
+      ∙ take_at (take place those) (last ∷ []) place (length-take-le place those (omega (arith, within)))
+
+  pub last_of_first : there ≡ take place there ++ last ∷ []
+  last_of_first = split ∙ ap (λ l. l ++ last ∷ []) (sym earlier)
+
+  pub by_the_first : (request : RequestText) (packages : List PackageText)
+      → has_cause request packages (map plain_package (take place there)) (plain_package last) ≡ true
+      → has_cause request packages (take place (map plain_package those)) (plain_package last) ≡ true
+  by_the_first request packages caused =
+      subst (λ (l : List PackageText). has_cause request packages l (plain_package last) ≡ true)
+      (ap (map plain_package) earlier ∙ sym (take-map plain_package place those)) caused
+
+-- a package before the last one brings it in
+pub brought_in_so : (request : RequestText) (packages : List PackageText) (there : List Package) (before : ℕ)
+    (one : Package) → there ≡ take before there ++ one ∷ []
+    → list_any (brings_in request packages (map plain_package (take before there)) (map plain_package there))
+    (map plain_package (take before there)) ≡ true
+    → has_cause request packages (map plain_package (take before there)) (plain_package one) ≡ true
+unfolding has_cause
+brought_in_so request packages there before one last found =
+    let early = map plain_package (take before there) in
+    let name = name_of request.architecture (plain_package one) in
+    third_so (is_name_installed request packages name) (is_asked request packages name)
+    (list_any (brings_in request packages early (early ++ plain_package one ∷ [])) early)
+    (subst (λ (l : List PackageText). list_any (brings_in request packages early l) early ≡ true)
+    (ap (map plain_package) last ∙ map-append plain_package (take before there) (one ∷ [])) found)

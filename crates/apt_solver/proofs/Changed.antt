@@ -1,67 +1,20 @@
 -- Once apt has done what an answer says, what is installed is what is to be there.
-use Rattle.std.proofs.Common.{◌≡◌, ◌∙◌, ◌↔◌, ◌<◌, ◌&&◌, ◌||◌, Bool, true, false, not, cond, List, [], ◌∷◌}
+use Rattle.std.proofs.Common.{◌≡◌, ◌∙◌, ◌↔◌, ◌&&◌, ◌||◌, Bool, true, false, not, List, [], ◌∷◌}
 use Rattle.std.proofs.Common.{ℕ, All, Contains, ap, arith, filter, inl, inr, refl, subst, sym}
-use Rattle.std.specs.List.{list_all, list_any}
+use Rattle.std.specs.List.{list_all}
 use Rattle.std.specs.Str.{bytes_eq}
 use Rattle.std.proofs.lemmas.Bool.{and_from, and_parts, both_ways, cases_Bool}
-use Rattle.std.proofs.lemmas.List.Elements.{All-contains, All-contains_itself, All-filter, Contains-append_cases}
-use Rattle.std.proofs.lemmas.List.Elements.{Contains-append_left, Contains-append_right, Contains-push}
-use Rattle.std.proofs.lemmas.List.Elements.{Contains-push_cases, filter_passes}
-use Rattle.std.proofs.lemmas.List.Folds.{Any-from_list_any, list_any_at}
+use Rattle.std.proofs.lemmas.List.Elements.{All-contains, Contains-append_cases}
+use Rattle.std.proofs.lemmas.List.Elements.{Contains-append_left, Contains-append_right}
 use Rattle.std.proofs.lemmas.Slice.Eq.{bytes_eq-Decides}
 use Rattle.debian_scenario.specs.Packages.{PackageText}
 use Rattle.debian_installable.specs.Installable.{may_stand_beside, stand_together}
+use Rattle.debian_directory.proofs.Elements.{all_of, any_of, filtered, is_head, kept, some_of}
 use Rattle.debian_directory.specs.Answers.{NameText, has, is_of_name, is_same, name_of}
 use Rattle.apt_solver.specs.Changes.{AreOneVersion, changed, is_left}
 use Rattle.apt_solver.specs.Difference.{is_new}
 
--- LISTS
-
-pub is_head : {X : Type 0} (y x : X) → Contains (y ∷ []) x → y ≡ x
-is_head y x at = elim (Contains-push_cases [] y x at) [ inl none ↦ absurd (omega (arith, none.1)) | inr same ↦ same ]
-
-module _ {X : Type 0} (test : X → Bool) where
-  pub some_of : (xs : List X) → list_any test xs ≡ true → (x : X) × Contains xs x × (test x ≡ true)
-  some_of xs so = let some = Any-from_list_any test xs so in (some.1, (some.0, some.2, some.3), some.4)
-
-  pub any_of : (xs : List X) (x : X) → Contains xs x → test x ≡ true → list_any test xs ≡ true
-  any_of xs x at so = list_any_at test xs at.0 x at.1 (ap test at.2 ∙ so)
-
-  pub all_of : (xs : List X) (x : X) → list_all test xs ≡ true → Contains xs x → test x ≡ true
-  all_of [] x all at = absurd (omega (arith, at.1))
-  all_of (y ∷ rest) x all at =
-      let parts = and_parts (test y) (list_all test rest) all in
-      elim (Contains-append_cases (y ∷ []) rest x at) [
-        | inl here ↦ ap test (sym (is_head y x here)) ∙ parts.0
-        | inr behind ↦ all_of rest x parts.1 behind
-      ]
-
-  pub filtered : (xs : List X) (x : X) → Contains (filter test xs) x → Contains xs x × (test x ≡ true)
-  filtered xs x at = (
-    All-contains (Contains xs) (filter test xs) x (All-filter test (Contains xs) xs (All-contains_itself xs)) at,
-    All-contains (λ y. test y ≡ true) (filter test xs) x (filter_passes test xs) at,
-  )
-
-  kept_behind : (y : X) (rest : List X) (x : X) → Contains (filter test rest) x → Contains (filter test (y ∷ rest)) x
-  kept_behind y rest x at =
-      elim (test y) as (λ b. Contains (cond b (y ∷ filter test rest) (filter test rest)) x) [
-        | true ↦ Contains-append_right (y ∷ []) (filter test rest) x at
-        | false ↦ at
-      ]
-
-  kept_here : (y : X) (rest : List X) → test y ≡ true → Contains (filter test (y ∷ rest)) y
-  kept_here y rest so =
-      subst (λ b. Contains (cond b (y ∷ filter test rest) (filter test rest)) y) (sym so)
-      (Contains-append_left (y ∷ []) (filter test rest) y (Contains-push [] y))
-
-  pub kept : (xs : List X) (x : X) → Contains xs x → test x ≡ true → Contains (filter test xs) x
-  kept [] x at so = absurd (omega (arith, at.1))
-  kept (y ∷ rest) x at so =
-      elim (Contains-append_cases (y ∷ []) rest x at) [
-        | inl here ↦ let same = is_head y x here in
-            subst (λ z. Contains (filter test (y ∷ rest)) z) same (kept_here y rest (ap test same ∙ so))
-        | inr behind ↦ kept_behind y rest x (kept rest x behind so)
-      ]
+-- TESTS
 
 not_true : (b : Bool) → not b ≡ true → b ≡ false
 not_true true not_so = absurd (both_ways false refl not_so)

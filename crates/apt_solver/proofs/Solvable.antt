@@ -1,11 +1,10 @@
 -- If packages are an answer in Debian's words, a request of what such answers have has a solution: of each name the
 -- first version that is one of them. So where there is no solution, there is no such answer.
 use Rattle.std.proofs.Common.{◌≡◌, ◌∙◌, ◌<◌, ◌==◌, ◌&&◌, ℕ, Bool, true, false, not, List, [], ◌∷◌, Option, None, Some}
-use Rattle.std.proofs.Common.{All, Contains, ap, arith, filter, inl, inr, length, map, refl, subst, sym}
+use Rattle.std.proofs.Common.{All, Contains, ap, arith, inl, inr, length, refl, subst, sym}
 use Rattle.std.specs.Prelude.{Any, option_and_then, option_map, slice_get, unwrap_or}
 use Rattle.std.specs.List.{find, list_all, list_any}
 use Rattle.std.specs.Option.{option_eq}
-use Rattle.std.specs.declared.vec.Vec.{Vec}
 use Rattle.std.proofs.lemmas.Bool.{and_from, and_parts, both_ways, cases_lt, eq-eqb, eqb-true, false_from_ne_true}
 use Rattle.std.proofs.lemmas.Bool.{lt-ltb, not-true, not_from_false}
 use Rattle.std.proofs.lemmas.List.Elements.{All-contains, All-contains_itself, All-head, All-tail, All-weaker}
@@ -22,10 +21,10 @@ use Rattle.debian_directory.specs.Answers.{NameText, has_asked, is_same, may_all
 use Rattle.debian_directory.specs.Answers.{name_of, stay}
 use Rattle.debian_directory.specs.declared.rules.Rules.{Rules}
 use Rattle.resolvo_ids.specs.Types.VersionSetId.{VersionSetId}
-use Rattle.resolvo_pool.specs.Dependencies.{Needs, Known, Unknown, needs_of}
+use Rattle.resolvo_pool.specs.Dependencies.{Needs, Known, Unknown}
 use Rattle.resolvo_pool.specs.Functions.{Provider}
 use Rattle.resolvo_pool.specs.PoolIds.{set_name_in, solvable_name_in, universe_in}
-use Rattle.resolvo_pool.specs.Provider.{Answers, Universe, knows_requirement, matching, non_matching, sets_of}
+use Rattle.resolvo_pool.specs.Provider.{Answers, knows_requirement, matching, non_matching, sets_of}
 use Rattle.resolvo_pool.specs.Types.ConditionalRequirement.{ConditionalRequirement}
 use Rattle.resolvo_pool.specs.Types.Requirement.{Requirement}
 use Rattle.resolvo_pool.specs.Types.Requirement.TheVariants.{Single, Union}
@@ -40,7 +39,8 @@ use Rattle.debian_provider.specs.Reading.{IsWhole}
 use Rattle.debian_provider.specs.Sets.{SetText, has, plain_set}
 use Rattle.debian_provider.specs.declared.archive.Archive.{Archive}
 use Rattle.debian_provider.specs.declared.set.Set.{Set}
-use Rattle.apt_solver.proofs.Changed.{all_of, any_of, filtered, is_head, kept, one_there, same_self, some_of}
+use Rattle.debian_directory.proofs.Elements.{all_of, any_of, filtered, is_head, kept, some_of}
+use Rattle.apt_solver.proofs.Changed.{one_there, same_self}
 use Rattle.apt_solver.proofs.Firsts.{all_picked, contains_picked, first_is, names_apart, picked_below, some_first}
 
 -- THE PROVIDER

@@ -1,21 +1,25 @@
 //! From the text of a scenario to the text of its answer.
 ghost use Rattle.std.specs.Prelude.{◌≡◌, false, true, All, Contains, map, IfOk, OnOk};
 ghost use Rattle.debian_scenario.specs.Plain.{plain_package, plain_request};
+ghost use Rattle.debian_scenario.specs.Scenarios.{scenario_of};
 ghost use Rattle.debian_directory.specs.Answers.{keeps_all};
-ghost use Rattle.debian_provider.specs.Needs.{IsKeeping};
+ghost use Rattle.debian_provider.specs.Needs.{IsKeepingMore};
 ghost use Rattle.apt_solver.specs.Causes.{HaveCauses};
 ghost use Rattle.apt_solver.specs.Errors.{SaysFault};
-ghost use Rattle.apt_solver.specs.Program.{IsSaid, IsSaidOf, is_whole};
+ghost use Rattle.apt_solver.specs.Program.{IsSaid, IsSaidOf, IsSaidTo, is_whole};
 ghost use Rattle.apt_solver.specs.Search.{HasNoSuch, IsFound};
 
 use crate::causes::have_causes;
 use crate::difference::difference;
 use crate::errors::{fault_text, none_text, unread_text};
 use crate::finding::{Found, find};
-use crate::ordering::in_order;
+use crate::ordering::Ordered;
 use debian_directory::{Directory, Rules, is_answer, keeps_all};
 use debian_scenario::{Package, Request, read};
 use std::alloc::{AllocError, Global};
+
+/// Why packages aren't written that were found.
+const UNCONFIRMED: &str = "a check didn't confirm what was found";
 
 /// What is said to a text.
 pub(crate) fn answer(alloc: Global, text: &[u8]) -> Result<Vec<u8>, AllocError>
@@ -38,8 +42,7 @@ fn is_whole(text: &[u8]) -> bool
 
 /// What is said to a text that wasn't cut.
 fn answer_whole(alloc: Global, text: &[u8]) -> Result<Vec<u8>, AllocError>
-    requires { is_whole text.now ≡ true }
-    ensures { IfOk result (λ said. IsSaid text.now said.items) }
+    ensures { IfOk result (λ said. IsSaidTo (scenario_of text.now) said.items) }
 {
     match read(alloc, text) {
         Ok(scenario) => answer_scenario(alloc, &scenario.request, &scenario.packages),
@@ -63,73 +66,45 @@ fn answer_scenario<'s, 't>(
     };
     match find(alloc, rules) {
         Ok(found) => found_text(alloc, &rules, &found),
-        Err(refused) => fault_text(alloc, &format!(in alloc; "{refused}")?),
+        Err(refused) => unanswered(alloc, &format!(in alloc; "{refused}")?),
     }
 }
 
 /// What is said where the search found this.
-fn found_text(alloc: Global, rules: &Rules<'_, '_>, found: &Found) -> Result<Vec<u8>, AllocError>
+fn found_text<'t>(
+    alloc: Global,
+    rules: &Rules<'_, 't>,
+    found: &Found<'t>,
+) -> Result<Vec<u8>, AllocError>
     requires { IsFound rules.now found.now }
     ensures { IfOk result (λ said. IsSaidOf (plain_request rules.now.request.now)
         (map plain_package rules.now.packages.now) said.items) }
 {
     match found {
-        Found::Packages { places, keeps_all } => answer_places(alloc, rules, places, *keeps_all),
+        Found::Packages { ordered, keeps_all } => answer_caused(alloc, rules, ordered, *keeps_all),
         Found::NoAnswer(reasons) => none_text(alloc, reasons),
-        Found::StepsUsed => fault_text(alloc, "the search took too long"),
-        Found::Unconfirmed => unconfirmed_text(alloc),
+        Found::StepsUsed => unanswered(alloc, "the search took too long"),
+        Found::Unconfirmed => unanswered(alloc, UNCONFIRMED),
     }
-}
-
-/// What is said where the search found the packages at these places, which are to keep all, unless no answer does.
-fn answer_places(
-    alloc: Global,
-    rules: &Rules<'_, '_>,
-    places: &[usize],
-    keeps_all: bool,
-) -> Result<Vec<u8>, AllocError>
-    requires { keeps_all ≡ false → HasNoSuch IsKeeping rules.now }
-    ensures { IfOk result (λ said. IsSaidOf (plain_request rules.now.request.now)
-        (map plain_package rules.now.packages.now) said.items) }
-{
-    let found = packages_at(alloc, rules.packages, places)?;
-    answer_ordered(alloc, rules, &found, keeps_all)
-}
-
-/// What is said where these packages were found: they are brought into an order in which each comes after its cause.
-fn answer_ordered<'t>(
-    alloc: Global,
-    rules: &Rules<'_, 't>,
-    found: &[Package<'t>],
-    keeps_all: bool,
-) -> Result<Vec<u8>, AllocError>
-    requires known { All (Contains rules.now.packages.now) found.now }
-    requires none { keeps_all ≡ false → HasNoSuch IsKeeping rules.now }
-    ensures { IfOk result (λ said. IsSaidOf (plain_request rules.now.request.now)
-        (map plain_package rules.now.packages.now) said.items) }
-{
-    let order = in_order(alloc, rules, found)?;
-    let there = packages_at(alloc, found, &order.places)?;
-    answer_caused(alloc, rules, &there, &order.causes, keeps_all)
 }
 
 /// What is said of these packages, if a check confirms that each has a cause.
 fn answer_caused<'t>(
     alloc: Global,
     rules: &Rules<'_, 't>,
-    there: &[Package<'t>],
-    causes: &[usize],
+    ordered: &Ordered<'t>,
     keeps_all: bool,
 ) -> Result<Vec<u8>, AllocError>
-    requires known { All (Contains rules.now.packages.now) there.now }
-    requires none { keeps_all ≡ false → HasNoSuch IsKeeping rules.now }
+    requires known { All (Contains rules.now.packages.now) ordered.now.there.items }
+    requires none { keeps_all ≡ false →
+        HasNoSuch (IsKeepingMore (map plain_package ordered.now.there.items)) rules.now }
     ensures { IfOk result (λ said. IsSaidOf (plain_request rules.now.request.now)
         (map plain_package rules.now.packages.now) said.items) }
 {
-    if have_causes(rules, there, causes) {
-        answer_found(alloc, rules, there, keeps_all)
+    if have_causes(alloc, rules, &ordered.there, &ordered.order.causes)? {
+        answer_found(alloc, rules, &ordered.there, keeps_all)
     } else {
-        unconfirmed_text(alloc)
+        unanswered(alloc, UNCONFIRMED)
     }
 }
 
@@ -144,7 +119,7 @@ fn answer_found<'t>(
     requires known { All (Contains rules.now.packages.now) there.now }
     requires caused { HaveCauses (plain_request rules.now.request.now) (map plain_package rules.now.packages.now)
         (map plain_package there.now) }
-    requires none { is_to_keep_all ≡ false → HasNoSuch IsKeeping rules.now }
+    requires none { is_to_keep_all ≡ false → HasNoSuch (IsKeepingMore (map plain_package there.now)) rules.now }
     ensures { IfOk result (λ said. IsSaidOf (plain_request rules.now.request.now)
         (map plain_package rules.now.packages.now) said.items) }
 {
@@ -153,7 +128,7 @@ fn answer_found<'t>(
     if keeps && answers {
         difference(alloc, rules, there)
     } else {
-        unconfirmed_text(alloc)
+        unanswered(alloc, UNCONFIRMED)
     }
 }
 
@@ -174,40 +149,9 @@ fn keeps_as_sought<'t>(
     }
 }
 
-/// That no check confirmed what was found.
-fn unconfirmed_text(alloc: Global) -> Result<Vec<u8>, AllocError>
+/// That a scenario isn't answered, and why.
+fn unanswered(alloc: Global, why: &str) -> Result<Vec<u8>, AllocError>
     ensures { IfOk result (λ said. SaysFault said.items) }
 {
-    fault_text(alloc, "a check didn't confirm what was found")
-}
-
-/// The packages at these places.
-fn packages_at<'t>(
-    alloc: Global,
-    packages: &[Package<'t>],
-    places: &[usize],
-) -> Result<Vec<Package<'t>>, AllocError>
-    ensures { IfOk result (λ there. All (Contains packages.now) there.items) }
-{
-    let mut there = Vec::new(alloc);
-    for place in places {
-        add_at(packages, *place, &mut there)?;
-    }
-    Ok(there)
-}
-
-/// Adds the package at a place, if there is one.
-fn add_at<'t>(
-    packages: &[Package<'t>],
-    place: usize,
-    there: &mut Vec<Package<'t>>,
-) -> Result<(), AllocError>
-    requires { All (Contains packages.now) there.old.items }
-    ensures { OnOk result (All (Contains packages.now) there.new.items) }
-{
-    let Some(version) = packages.get(place) else {
-        return Ok(());
-    };
-    there.push(*version)?;
-    Ok(())
+    fault_text(alloc, why)
 }

@@ -3,7 +3,7 @@ ghost use Rattle.std.specs.Prelude.{◌≡◌, ◌++◌, map, IfOk, OnOk};
 ghost use Rattle.debian_scenario.specs.Plain.{plain_package};
 ghost use Rattle.apt_solver.specs.Difference as spec;
 
-use debian_directory::{Rules, Together};
+use debian_directory::{Directory, Rules, Together};
 use debian_scenario::Package;
 use std::alloc::{AllocError, Global};
 
@@ -18,7 +18,12 @@ pub(crate) fn difference<'t>(
 {
     let mut said = Vec::new(alloc);
     write_new(there, &mut said)?;
-    let together = Together::new(alloc, rules.request.architecture, there)?;
+    let directory = Directory::new(alloc, there)?;
+    let together = Together {
+        native: rules.request.architecture,
+        packages: there,
+        directory: &directory,
+    };
     write_removed(rules, &together, &mut said)?;
     Ok(said)
 }

@@ -14,7 +14,7 @@ pub(crate) fn none_text(alloc: Global, reasons: &str) -> Result<Vec<u8>, AllocEr
 
 /// The stanza of a scenario that isn't answered, and why.
 pub(crate) fn fault_text(alloc: Global, fault: &str) -> Result<Vec<u8>, AllocError>
-    ensures { IfOk result (λ said. spec.SaysFault said.items) }
+    ensures { IfOk result (λ said. said.items ≡ spec.not_answered fault.now) }
 {
     error_text(alloc, "not answered: ", fault)
 }
@@ -46,7 +46,7 @@ fn write_lines(text: &[u8], said: &mut Vec<u8>) -> Result<(), AllocError>
 
 /// The stanza of a scenario that can't be read.
 pub(crate) fn unread_text(alloc: Global, error: ReadError) -> Result<Vec<u8>, AllocError>
-    ensures { IfOk result (λ said. spec.SaysFault said.items) }
+    ensures { IfOk result (λ said. said.items ≡ spec.unread_text error) }
 {
     match error {
         ReadError::OutOfMemory => fault_text(alloc, "out of memory"),

@@ -5,8 +5,8 @@
 //! for the solution that is the best by apt's wishes (`solving`, `wishes`, `recommending`). What it finds are packages.
 //! `ordering` brings them into an order in which each comes after its cause. Checks over the stanzas confirm that they
 //! are an answer (`debian_directory`) and have causes (`causes`), and `difference` says how they differ from what is
-//! installed. So that an answer is one doesn't rest on the search. That there is none, or none that keeps all, rests on
-//! the provider, which leaves out nothing that an answer may have, and on the check of what the search refutes. The
+//! installed. So that an answer is one doesn't rest on the search. That there is none, or none that keeps more, rests
+//! on the provider, which leaves out nothing that an answer may have, and on the check of what the search refutes. The
 //! exit status is 0 in both cases; it is 1 if standard input or output fails, or memory ends.
 #![tactic(auto)]
 

@@ -7,7 +7,7 @@ use Rattle.debian_scenario.specs.Requests.{RequestText}
 use Rattle.debian_scenario.specs.declared.package.MultiArch.TheVariants.{No}
 use Rattle.debian_scenario.specs.declared.package.State.{State}
 use Rattle.debian_scenario.specs.declared.request.Actions.{Actions}
-use Rattle.debian_directory.specs.Answers.{is_answer}
+use Rattle.debian_directory.specs.Answers.{is_answer, is_lost, keeps_another, keeps_as_much}
 
 -- PACKAGES
 
@@ -217,3 +217,39 @@ nothing_new_in_an_upgrade = refl
 nothing_removed_in_an_upgrade : is_done (record actions { upgrade = true }) [] ≡ false
 unfolding keys upstream_len
 nothing_removed_in_an_upgrade = refl
+
+-- WHAT IS KEPT
+
+-- `a` is to go, `d` needs it, and `e` needs nothing
+abbrev d : PackageText
+d = version installed (codes "d") (codes "1") (record nothing { depends = codes "a" })
+
+abbrev e : PackageText
+e = version installed (codes "e") (codes "1") nothing
+
+abbrev all : List PackageText
+all = a installed ∷ d ∷ e ∷ []
+
+abbrev removal : RequestText
+removal = request actions [] (codes "a")
+
+lost : is_lost removal all (e ∷ []) d ≡ true
+lost = refl
+
+to_go : is_lost removal all (e ∷ []) (a installed) ≡ false
+to_go = refl
+
+there_still : is_lost removal all (e ∷ []) e ≡ false
+there_still = refl
+
+keeps_e : keeps_another removal all [] (e ∷ []) ≡ true
+keeps_e = refl
+
+keeps_no_more : keeps_another removal all (e ∷ []) (e ∷ []) ≡ false
+keeps_no_more = refl
+
+keeps_less : keeps_as_much removal all (e ∷ []) (d ∷ []) ≡ false
+keeps_less = refl
+
+keeps_d_too : keeps_as_much removal all (e ∷ []) (d ∷ e ∷ []) ≡ true
+keeps_d_too = refl

@@ -1,4 +1,5 @@
 pub mod Directories
+pub mod Elements
 mod Examples
 pub mod Lists
 pub mod Names

@@ -1,6 +1,6 @@
 -- A package that a relation may mean is under the relation's name.
-use Rattle.std.proofs.Common.{◌≡◌, ℕ, ◌==◌, not, Bool, true, List, [], ◌∷◌, Option, None, Some, filter, subst, sym}
-use Rattle.std.proofs.Common.{inl, inr}
+use Rattle.std.proofs.Common.{◌≡◌, ℕ, zero, suc, ◌==◌, not, Bool, true, List, [], ◌∷◌, Option, None, Some, filter}
+use Rattle.std.proofs.Common.{inl, inr, subst, sym, take}
 use Rattle.std.specs.Prelude.{slice_get}
 use Rattle.std.specs.List.{list_any, slice_split}
 use Rattle.std.specs.Str.{bytes_eq}
@@ -51,3 +51,19 @@ module _ (packages : List PackageText) (directory : Directory) (of : IsDirectory
     | inl e ↦ placed_by_name r.name (and_parts _ _ e).0
     | inr e ↦ of.provided place p at r.name (is_provided-name r p.relations.provides e)
   ]
+
+slice_get-first : (packages : List PackageText) (count place : ℕ) (p : PackageText) →
+    slice_get (take count packages) place ≡ Some p → slice_get packages place ≡ Some p
+slice_get-first [] zero place p h = h
+slice_get-first [] (suc count) place p h = h
+slice_get-first (q ∷ packages) zero place p h = let bad : None ≡ Some p = h in cc
+slice_get-first (q ∷ packages) (suc count) zero p h = h
+slice_get-first (q ∷ packages) (suc count) (suc place) p h = slice_get-first packages count place p h
+
+-- a directory of packages is one of the first of them
+pub of_first : (packages : List PackageText) (directory : Directory) (count : ℕ) → IsDirectoryOf packages directory →
+    IsDirectoryOf (take count packages) directory
+of_first packages directory count of = record {
+  named = λ place p at. of.named place p (slice_get-first packages count place p at);
+  provided = λ place p at. of.provided place p (slice_get-first packages count place p at);
+}

@@ -130,6 +130,21 @@ module _ (request : RequestText) (packages : List PackageText) where
   abbrev pub keeps_all : List PackageText → Bool
   keeps_all there = list_all (is_kept there) packages
 
+  -- it is to be kept, and none of these packages is a version of its name
+  abbrev pub is_lost : List PackageText → PackageText → Bool
+  is_lost there p = is_to_be_kept p && not (has request.architecture there (name_in p))
+
+  -- what is to be kept and isn't lost in the first packages, isn't lost in the others
+  abbrev pub keeps_as_much : List PackageText → List PackageText → Bool
+  keeps_as_much there other =
+      list_all (λ p. not (is_to_be_kept p && has request.architecture there (name_in p))
+      || has request.architecture other (name_in p)) packages
+
+  -- something is lost in the first packages, and not in the others
+  abbrev pub keeps_another : List PackageText → List PackageText → Bool
+  keeps_another there other =
+      list_any (λ p. is_lost there p && has request.architecture other (name_in p)) packages
+
   -- ANSWERS
 
   abbrev pub may_all_be_picked : List PackageText → Bool

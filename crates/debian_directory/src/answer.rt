@@ -5,6 +5,7 @@ ghost use Rattle.debian_scenario.specs.Plain.{plain_package, plain_request};
 ghost use Rattle.debian_directory.specs.Answers.{has, is_answer, is_kept, keeps_all, may_all_be_picked, stay, stays};
 ghost use Rattle.debian_directory.specs.Plain.{plain_name};
 
+use crate::directory::Directory;
 use crate::name::Name;
 use crate::rules::Rules;
 use crate::together::Together;
@@ -22,7 +23,12 @@ pub fn is_answer<'t>(
         (map plain_package rules.now.packages.now) (map plain_package packages.now)) }
 {
     let native = rules.request.architecture;
-    let together = Together::new(alloc, native, packages)?;
+    let directory = Directory::new(alloc, packages)?;
+    let together = Together {
+        native,
+        packages,
+        directory: &directory,
+    };
     let asked = names_of(alloc, native, rules.request.install)?;
     Ok(
         together.is_installable()
@@ -75,7 +81,12 @@ pub fn keeps_all<'t>(
     ensures { IfOk result (λ yes. yes ≡ keeps_all (plain_request rules.now.request.now)
         (map plain_package rules.now.packages.now) (map plain_package packages.now)) }
 {
-    let together = Together::new(alloc, rules.request.architecture, packages)?;
+    let directory = Directory::new(alloc, packages)?;
+    let together = Together {
+        native: rules.request.architecture,
+        packages,
+        directory: &directory,
+    };
     Ok(are_kept(rules, &together))
 }
 

@@ -1,5 +1,5 @@
 //! Packages that are there together.
-ghost use Rattle.std.specs.Prelude.{◌≡◌, ◌+◌, drop, map, IfOk};
+ghost use Rattle.std.specs.Prelude.{◌≡◌, ◌+◌, drop, map, take};
 ghost use Rattle.std.specs.List.{list_all};
 ghost use Rattle.debian_scenario.specs.Plain.{plain_package};
 ghost use Rattle.debian_text.specs.Plain.{plain_relation};
@@ -15,35 +15,31 @@ use crate::name::Name;
 use debian_installable::{is_blank, is_free_of, is_met_by, may_stand_beside};
 use debian_scenario::Package;
 use debian_text::Relation;
-use std::alloc::{AllocError, Global};
 
 /// Packages that are there together.
-#[derive(Drop)]
+#[derive(Clone, Copy)]
 pub struct Together<'p, 't> {
     /// The native architecture.
     pub native: &'t [u8],
     /// All that are there.
     pub packages: &'p [Package<'t>],
-    directory: Directory<'t>,
-    ghost of_packages: { IsDirectoryOf (map plain_package packages.now) directory } by { Prim.hlevel props },
+    /// Their directory.
+    pub directory: &'p Directory<'t>,
+    ghost of_packages: { IsDirectoryOf (map plain_package packages.now) directory.now } by { Prim.hlevel props },
 }
 
 impl<'p, 't> Together<'p, 't> {
-    /// These packages.
-    pub fn new(
-        alloc: Global,
-        native: &'t [u8],
-        packages: &'p [Package<'t>],
-    ) -> Result<Together<'p, 't>, AllocError>
-        ensures native { IfOk result (λ t. t.native.now ≡ native.now) }
-        ensures packages { IfOk result (λ t. t.packages.now ≡ packages.now) }
+    /// The first so many of them.
+    pub fn first(&self, count: usize) -> Together<'p, 't>
+        ensures native { result.native.now ≡ self.now.native.now }
+        ensures packages { result.packages.now ≡ take count self.now.packages.now }
     {
-        let directory = Directory::new(alloc, packages)?;
-        Ok(Together {
-            native,
+        let (packages, _) = self.packages.split_at(count.min(self.packages.len()));
+        Together {
+            native: self.native,
             packages,
-            directory,
-        })
+            directory: self.directory,
+        }
     }
 
     /// Whether they may be there together, and no others.
@@ -131,8 +127,8 @@ impl<'p, 't> Together<'p, 't> {
             .all(|group| self.is_group_met(one, group))
     }
 
-    /// Whether an alternative of a group is met.
-    fn is_group_met(&self, one: &Package<'t>, group: &[u8]) -> bool
+    /// Whether an alternative of a group of a package's relations is met.
+    pub fn is_group_met(&self, one: &Package<'t>, group: &[u8]) -> bool
         ensures { result ≡ spec.is_group_met self.now.native.now (map plain_package self.now.packages.now)
             (plain_package one.now) group.now }
     {

@@ -2,35 +2,21 @@
 use Rattle.std.proofs.Common.{◌≡◌, ◌∙◌, ℕ, zero, suc, ◌<◌, ◌==◌, ◌&&◌, not, Bool, true, false, cond, List, [], ◌∷◌}
 use Rattle.std.proofs.Common.{◌++◌, Option}
 use Rattle.std.proofs.Common.{None, Some, get_or, length, filter, ap, arith, refl, subst, sym}
-use Rattle.std.specs.Prelude.{All, Any, Contains, MatchBool, slice_get, unwrap_or, Result, Ok, Err, IfOk}
-use Rattle.std.specs.List.{list_all, list_any, slice_split}
+use Rattle.std.specs.Prelude.{All}
 use Rattle.std.proofs.lemmas.Bool.{and_from, and_parts, false≢true}
 use Rattle.std.proofs.lemmas.List.Elements.{All-push, All-weaker}
 use Rattle.std.proofs.lemmas.List.Folds.{Any-from_list_any}
 use Rattle.std.proofs.lemmas.List.Sums.{AllPass-from_list_all}
 use Rattle.std.proofs.lemmas.Option.{slice_get-get_or}
-use Rattle.debian_text.specs.Relations.{RelationText, relation_of}
-use Rattle.debian_scenario.specs.Packages.{PackageText}
-use Rattle.debian_installable.specs.Fields.{alternatives, groups, is_blank}
-use Rattle.debian_installable.specs.Installable.{architecture_of, is_group_met, is_met, is_met_by, is_served, means}
-use Rattle.debian_installable.specs.Installable.{serves}
-use Rattle.debian_installable.specs.Installable.{are_free, are_met, is_free, stand_together}
-use Rattle.debian_directory.specs.declared.rules.Rules.{Rules}
-use Rattle.resolvo_ids.specs.Types.VersionSetId.{VersionSetId}
-use Rattle.resolvo_pool.specs.Pool.{IsLater}
-use Rattle.resolvo_pool.specs.PoolIds.{universe_in}
-use Rattle.resolvo_pool.specs.Provider.{sets_of}
-use Rattle.resolvo_pool.specs.Types.ConditionalRequirement.{ConditionalRequirement}
-use Rattle.resolvo_pool.specs.Types.Requirement.{Requirement}
-use Rattle.resolvo_pool.specs.Types.Requirement.TheVariants.{Single, Union}
-use Rattle.debian_provider.specs.Answers.{Ids}
-use Rattle.debian_provider.specs.Growing.{IsGrown, native_in, packages_in}
-use Rattle.debian_provider.specs.Needs.{AreDemanded, AreFreeFor, AreMetFor, IsDemand, IsGroupMetFor, IsGroupOffered}
-use Rattle.debian_provider.specs.Needs.{IsMeant}
-use Rattle.debian_provider.specs.Needs.{IsNowhere, IsOffered, IsPartFreeFor, IsThere}
-use Rattle.debian_provider.specs.Needs.{sets_in}
+use Rattle.debian_provider.proofs.Words.{alternatives, Any, architecture_of, Archive, are_free, are_met}
+use Rattle.debian_provider.proofs.Words.{AreFreeFor, AreMetFor, ConditionalRequirement, Contains, Err, groups, Ids}
+use Rattle.debian_provider.proofs.Words.{IfOk, is_blank, is_free, is_group_met, is_met, is_met_by, is_served, IsDemand}
+use Rattle.debian_provider.proofs.Words.{IsGroupMetFor, IsGroupOffered, IsLater, IsMeant, IsNowhere, IsOffered}
+use Rattle.debian_provider.proofs.Words.{IsPartFreeFor, IsThere, list_all, MatchBool, means, native_in, Ok}
+use Rattle.debian_provider.proofs.Words.{packages_in, PackageText, relation_of, RelationText, Requirement, Result}
+use Rattle.debian_provider.proofs.Words.{Rules, serves, sets_of, Single, slice_get, slice_split}
+use Rattle.debian_provider.proofs.Words.{stand_together, Union, universe_in, unwrap_or, VersionSetId}
 use Rattle.debian_provider.specs.Sets.{Meeting, has}
-use Rattle.debian_provider.specs.declared.archive.Archive.{Archive}
 use Rattle.debian_provider.proofs.Named.{set_still}
 use Rattle.debian_provider.proofs.Versions.{still_at}
 

@@ -1,15 +1,11 @@
 -- What is in the pool stays in it.
-use Rattle.std.proofs.Common.{◌≡◌, ℕ, zero, suc, ◌+◌, ◌<◌, ◌≤◌, Bool, true, false, cond}
+use Rattle.std.proofs.Common.{◌≡◌, ℕ, zero, suc, ◌<◌, ◌≤◌, Bool, true, false, cond}
 use Rattle.std.proofs.Common.{List, [], ◌∷◌, ◌++◌, length, arith}
-use Rattle.std.specs.Prelude.{nat_lt, All}
-use Rattle.std.specs.declared.vec.Vec.{Vec}
 use Rattle.std.proofs.lemmas.Bool.{lt-ltb, ltb-true}
 use Rattle.std.proofs.lemmas.List.{length-append}
 use Rattle.std.proofs.lemmas.List.Elements.{All-nil, All-push}
-use Rattle.resolvo_ids.specs.Types.VersionSetId.{VersionSetId}
-use Rattle.resolvo_pool.specs.Interned.{has_same, interned}
-use Rattle.resolvo_pool.specs.Pool.{AreSetsHere}
-use Rattle.debian_provider.specs.Answers.{AreHere, AreKnown, Ids}
+use Rattle.debian_provider.proofs.Words.{AreHere, AreKnown, AreSetsHere, has_same, Ids, interned, nat_lt, Vec}
+use Rattle.debian_provider.proofs.Words.{VersionSetId}
 
 pub here_still : (pool after : Ids) (solvables : List ℕ) → length pool.solvables ≤ length after.solvables
     → AreHere pool solvables → AreHere after solvables

@@ -1,13 +1,11 @@
 -- What is in a pool stays at its place as the pool grows.
-use Rattle.std.proofs.Common.{◌≡◌, ◌∙◌, ◌≤◌, ◌+◌, ℕ, Bool, true, false, cond, List, [], ◌∷◌, ◌++◌, length, arith}
-use Rattle.std.proofs.Common.{ap, refl, subst, sym}
+use Rattle.std.proofs.Common.{◌∙◌, ◌≤◌, ◌+◌, ℕ, Bool, true, false, cond, List, [], ◌∷◌, ◌++◌, length, arith}
+use Rattle.std.proofs.Common.{ap, refl, sym}
 use Rattle.std.specs.Prelude.{bytes_eq}
 use Rattle.std.proofs.lemmas.List.{append_assoc, append-nil, length-append}
-use Rattle.resolvo_ids.specs.Types.VersionSetId.{VersionSetId}
-use Rattle.resolvo_pool.specs.Interned.{has_same, interned}
-use Rattle.resolvo_pool.specs.Pool.{Lists, IsExtended, IsLater, same_set, with_name, with_solvable, with_string}
-use Rattle.resolvo_pool.specs.Pool.{with_union, with_version_set}
-use Rattle.resolvo_pool.specs.Types.Solvable.{Solvable}
+use Rattle.debian_provider.proofs.Words.{has_same, interned, IsExtended, IsLater, Lists, same_set, Solvable}
+use Rattle.debian_provider.proofs.Words.{VersionSetId, with_name, with_solvable, with_string, with_union}
+use Rattle.debian_provider.proofs.Words.{with_version_set}
 
 -- LISTS
 

@@ -10,3 +10,4 @@ pub mod SameSets
 pub mod Versions
 pub mod Wants
 pub mod Wider
+pub mod Words

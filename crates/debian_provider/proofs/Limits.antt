@@ -1,30 +1,20 @@
 -- What may not be there beside a package, by its conflicts and its name.
-use Rattle.std.proofs.Common.{◌≡◌, ◌∙◌, ℕ, zero, suc, ◌<◌, ◌&&◌, ◌||◌, not, Bool, true, false, cond, List, [], ◌∷◌}
+use Rattle.std.proofs.Common.{◌≡◌, ◌∙◌, ℕ, zero, suc, ◌<◌, ◌&&◌, not, Bool, true, false, cond, List, [], ◌∷◌}
 use Rattle.std.proofs.Common.{◌++◌}
-use Rattle.std.proofs.Common.{None, Some, get_or, length, ap, ap₂, arith, inl, inr, refl, subst, sym}
-use Rattle.std.specs.Prelude.{All, Contains}
-use Rattle.std.specs.List.{list_all}
+use Rattle.std.proofs.Common.{None, Some, get_or, length, ap, arith, inl, inr, refl, subst, sym}
+use Rattle.std.specs.Prelude.{All}
 use Rattle.std.specs.Str.{bytes_eq}
 use Rattle.std.proofs.lemmas.Bool.{and_from, and_parts, both_ways, cases_order, false_from_ne_true}
 use Rattle.std.proofs.lemmas.Bool.{false≢true, or_cases}
-use Rattle.std.proofs.lemmas.List.{get_or_read}
 use Rattle.std.proofs.lemmas.List.Elements.{All-push, All-weaker}
 use Rattle.std.proofs.lemmas.List.Sums.{AllPass-from_list_all}
 use Rattle.std.proofs.lemmas.Slice.Eq.{bytes_eq-Decides}
-use Rattle.debian_text.specs.Relations.{RelationText}
-use Rattle.debian_scenario.specs.Packages.{PackageText}
-use Rattle.debian_installable.specs.Installable.{have_one_name, is_concerned}
-use Rattle.debian_installable.specs.Installable.{is_free_of, is_same, may_stand_beside, means, stand_together}
-use Rattle.debian_directory.specs.Answers.{NameText, name_of}
-use Rattle.debian_directory.specs.declared.rules.Rules.{Rules}
-use Rattle.resolvo_ids.specs.Types.VersionSetId.{VersionSetId}
-use Rattle.resolvo_pool.specs.Pool.{IsLater}
-use Rattle.debian_provider.specs.Answers.{Ids}
-use Rattle.debian_provider.specs.Growing.{IsGrown, native_in}
-use Rattle.debian_provider.specs.Meaning.{IsEntry, IsNamed, IsSet}
-use Rattle.debian_provider.specs.Needs.{AreLimited, IsFreeFor, IsLimit, IsThere, Spares, SparesOther}
-use Rattle.debian_provider.specs.Sets.{SetText, Beside, Spared, beside, has}
-use Rattle.debian_provider.specs.declared.archive.Archive.{Archive}
+use Rattle.debian_provider.proofs.Words.{Archive, AreLimited, beside, Contains, have_one_name, Ids, is_concerned}
+use Rattle.debian_provider.proofs.Words.{is_free_of, is_same, IsEntry, IsFreeFor, IsGrown, IsLater, IsLimit, IsNamed}
+use Rattle.debian_provider.proofs.Words.{may_stand_beside, means, name_of, NameText}
+use Rattle.debian_provider.proofs.Words.{native_in, PackageText, RelationText, Rules, SetText, Spares, SparesOther}
+use Rattle.debian_provider.proofs.Words.{stand_together, VersionSetId}
+use Rattle.debian_provider.specs.Sets.{Beside, Spared, has}
 use Rattle.debian_provider.proofs.Demands.{four_parts, passes, standing}
 use Rattle.debian_provider.proofs.Named.{default, is_set, same_bytes, set_still}
 

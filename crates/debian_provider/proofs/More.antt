@@ -1,12 +1,7 @@
 -- More version sets and texts, and the same names.
 use Rattle.std.proofs.Common.{◌≡◌, ◌∙◌, ℕ, Bool, List, [], ◌∷◌, ◌++◌, Some, ap, length, refl, subst, sym}
-use Rattle.std.specs.Prelude.{slice_get}
-use Rattle.resolvo_ids.specs.Types.VersionSetId.{VersionSetId}
-use Rattle.resolvo_pool.specs.Pool.{IsLater, with_string, with_union, with_version_set}
-use Rattle.debian_provider.specs.Answers.{Ids}
-use Rattle.debian_provider.specs.Growing.{HasMoreSets}
-use Rattle.debian_provider.specs.declared.reached.Reached.{Reached}
-use Rattle.debian_provider.specs.declared.set.Set.{Set}
+use Rattle.debian_provider.proofs.Words.{HasMoreSets, Ids, IsLater, Reached, Set, slice_get, VersionSetId, with_string}
+use Rattle.debian_provider.proofs.Words.{with_union, with_version_set}
 use Rattle.debian_provider.proofs.Later.{later_itself, later_with_string, later_with_union, later_with_version_set}
 
 module _ (old new : Reached) (versions : new.versions ≡ old.versions) where

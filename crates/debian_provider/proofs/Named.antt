@@ -2,23 +2,15 @@
 use Rattle.std.proofs.Common.{◌==◌, ◌<◌, get_or, length}
 use Rattle.std.proofs.Common.{◌≡◌, ◌∙◌, ℕ, zero, suc, ◌+◌, Bool, true, false, not, ◌||◌, ◌&&◌, cond, List, [], ◌∷◌}
 use Rattle.std.proofs.Common.{◌++◌}
-use Rattle.std.proofs.Common.{Option, None, Some, arith, refl, ap, ap₂, sym, subst, add_comm, add-one}
-use Rattle.std.specs.Prelude.{Contains, option_map, slice_get}
-use Rattle.std.specs.List.{list_any}
+use Rattle.std.proofs.Common.{Some, arith, refl, ap, ap₂, sym, subst, add_comm, add-one}
 use Rattle.std.specs.Str.{bytes_eq}
 use Rattle.std.proofs.lemmas.Bool.{and_from, and_parts, eqb-true, false≢true}
 use Rattle.std.proofs.lemmas.List.Folds.{Any-from_list_any}
 use Rattle.std.proofs.lemmas.List.Elements.{Contains-append_left}
 use Rattle.std.proofs.lemmas.Slice.Eq.{bytes_eq-Decides}
-use Rattle.debian_directory.specs.Answers.{NameText}
-use Rattle.debian_directory.specs.Plain.{plain_name}
-use Rattle.debian_directory.specs.declared.name.Name.{Name}
-use Rattle.resolvo_ids.specs.Types.VersionSetId.{VersionSetId}
-use Rattle.resolvo_pool.specs.Interned.{has_same, interned, interned_place}
-use Rattle.resolvo_pool.specs.Pool.{IsExtended, IsLater}
-use Rattle.debian_provider.specs.Answers.{Ids}
-use Rattle.debian_provider.specs.Meaning.{HasSet, IsEntry, IsNamed, IsSet, plain_entry}
-use Rattle.debian_provider.specs.Sets.{SetText}
+use Rattle.debian_provider.proofs.Words.{Contains, has_same, HasSet, Ids, interned, interned_place, IsEntry, IsExtended}
+use Rattle.debian_provider.proofs.Words.{IsLater, IsNamed, IsSet, list_any, Name, NameText, option_map, plain_entry}
+use Rattle.debian_provider.proofs.Words.{plain_name, SetText, slice_get, VersionSetId}
 
 -- INTERNED
 

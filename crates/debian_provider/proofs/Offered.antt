@@ -1,34 +1,18 @@
 -- What is offered stays offered as an archive grows.
-use Rattle.std.proofs.Common.{◌≡◌, ◌∙◌, ℕ, zero, suc, ◌<◌, ◌+◌, ◌==◌, true, false, List, [], ◌∷◌, ◌++◌, Option, None}
+use Rattle.std.proofs.Common.{◌≡◌, ◌∙◌, ℕ, ◌<◌, true, List, [], ◌∷◌, ◌++◌, Option, None}
 use Rattle.std.proofs.Common.{Some}
-use Rattle.std.proofs.Common.{Bor, get_or, length, map, ap, arith, inl, inr, refl, subst, sym}
-use Rattle.std.specs.Prelude.{option_map, slice_get, unwrap_or, Result, Ok, Err, IfOk, OnOk}
-use Rattle.std.specs.Slice.{IsItemAt}
+use Rattle.std.proofs.Common.{Bor, get_or, length, ap, refl, subst, sym}
 use Rattle.std.proofs.lemmas.Bool.{and_parts}
 use Rattle.std.proofs.lemmas.List.Elements.{All-weaker}
 use Rattle.std.proofs.lemmas.Option.{same_Some, slice_get-get_or, slice_get-map}
-use Rattle.debian_text.specs.Relations.{RelationText, relation_of}
-use Rattle.debian_scenario.specs.Packages.{PackageText}
-use Rattle.debian_scenario.specs.Plain.{plain_package}
-use Rattle.debian_scenario.specs.declared.package.Package.{Package}
-use Rattle.debian_installable.specs.Fields.{alternatives}
-use Rattle.debian_installable.specs.Installable.{architecture_of, means}
-use Rattle.debian_directory.specs.Answers.{NameText, name_of}
-use Rattle.debian_directory.specs.Directory.{places_of}
-use Rattle.debian_directory.specs.declared.rules.Rules.{Rules}
 use Rattle.debian_directory.proofs.Names.{placed_by_relation}
-use Rattle.resolvo_ids.specs.Types.VersionSetId.{VersionSetId}
-use Rattle.resolvo_ids.specs.Types.VersionSetUnionId.{VersionSetUnionId}
-use Rattle.resolvo_pool.specs.Pool.{AreSetsHere, IsExtended, IsLater}
-use Rattle.resolvo_pool.specs.Types.Requirement.{Requirement}
-use Rattle.resolvo_pool.specs.Types.Requirement.TheVariants.{Union}
-use Rattle.debian_provider.specs.Answers.{Ids}
-use Rattle.debian_provider.specs.Growing.{AreNamed, HasMoreSets, IsAdded, IsGrown, native_in, packages_in}
-use Rattle.debian_provider.specs.Meaning.{HasSet}
-use Rattle.debian_provider.specs.Needs.{IsGroupOffered, IsOffered, IsOfferedAt, sets_in}
-use Rattle.debian_provider.specs.Sets.{SetText, Meeting, has}
-use Rattle.debian_provider.specs.declared.archive.Archive.{Archive}
-use Rattle.debian_provider.specs.declared.reached.Reached.{Reached}
+use Rattle.debian_provider.proofs.Words.{alternatives, architecture_of, Archive, AreNamed, AreSetsHere, Err}
+use Rattle.debian_provider.proofs.Words.{HasMoreSets, HasSet, Ids, IfOk, IsAdded, IsExtended, IsGroupOffered, IsGrown}
+use Rattle.debian_provider.proofs.Words.{IsItemAt, IsLater, IsOffered, IsOfferedAt, means, name_of, NameText, native_in}
+use Rattle.debian_provider.proofs.Words.{Ok, OnOk, option_map, Package, packages_in, PackageText, places_of}
+use Rattle.debian_provider.proofs.Words.{plain_package, Reached, relation_of, RelationText, Requirement, Result, Rules}
+use Rattle.debian_provider.proofs.Words.{sets_in, SetText, slice_get, VersionSetId}
+use Rattle.debian_provider.specs.Sets.{Meeting}
 use Rattle.debian_provider.proofs.Growing.{sets_pushed, sets_still}
 use Rattle.debian_provider.proofs.Later.{extended_itself, extended_longer, extended_twice, later_itself}
 use Rattle.debian_provider.proofs.Later.{later_twice}

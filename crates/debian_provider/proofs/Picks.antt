@@ -1,21 +1,14 @@
 -- The places of the packages that may be picked.
-use Rattle.std.proofs.Common.{◌≡◌, ◌∙◌, ℕ, zero, suc, ◌<◌, ◌==◌, Bool, true, false, List, [], ◌∷◌, Option, None, Some}
-use Rattle.std.proofs.Common.{arith, get_or, inl, inr, length, ap, refl, subst, sym}
-use Rattle.std.specs.Prelude.{Contains, option_map, slice_get}
+use Rattle.std.proofs.Common.{◌≡◌, ◌∙◌, ℕ, zero, suc, ◌<◌, ◌==◌, true, List, [], ◌∷◌, None, Some}
+use Rattle.std.proofs.Common.{arith, get_or, inl, inr, length, ap, subst, sym}
 use Rattle.std.proofs.lemmas.Bool.{eqb-true, false≢true, or_cases}
 use Rattle.std.proofs.lemmas.Option.{none-some, same_Some, slice_get-map}
 use Rattle.std.proofs.lemmas.Slice.Eq.{bytes_eq-Decides}
-use Rattle.debian_scenario.specs.Packages.{PackageText}
-use Rattle.debian_scenario.specs.Plain.{plain_package}
-use Rattle.debian_scenario.specs.declared.package.Package.{Package}
-use Rattle.debian_directory.specs.Answers.{NameText, may_be_picked, name_of}
-use Rattle.debian_directory.specs.Directory.{places_of}
-use Rattle.debian_directory.specs.Plain.{plain_name}
-use Rattle.debian_directory.specs.declared.name.Name.{Name}
-use Rattle.debian_directory.specs.declared.rules.Rules.{Rules}
 use Rattle.debian_directory.proofs.Names.{placed_by_name}
 use Rattle.debian_directory.proofs.Places.{is_among}
-use Rattle.debian_provider.specs.Growing.{IsPlaceOf, native_in, packages_in, request_in}
+use Rattle.debian_provider.proofs.Words.{Contains, IsPlaceOf, may_be_picked, Name, name_of, NameText, native_in}
+use Rattle.debian_provider.proofs.Words.{option_map, Package, packages_in, places_of, plain_name}
+use Rattle.debian_provider.proofs.Words.{plain_package, request_in, Rules, slice_get}
 use Rattle.debian_provider.proofs.Named.{default}
 
 -- a place that is among these is at an index

@@ -1,27 +1,16 @@
 -- Version sets that compare as equal say the same.
-use Rattle.std.proofs.Common.{Bor, ◌≡◌, ◌∙◌, ℕ, Bool, true, false, ◌&&◌, ◌==◌, List, Option, None, Some, ap, ap₂}
-use Rattle.std.proofs.Common.{refl, sym}
-use Rattle.std.specs.Prelude.{option_map, slice_get}
-use Rattle.std.specs.Option.{option_eq}
+use Rattle.std.proofs.Common.{Bor, ◌≡◌, ◌∙◌, ℕ, Bool, true, ◌&&◌, ◌==◌, List, Option, None, Some, ap, ap₂}
+use Rattle.std.proofs.Common.{refl}
 use Rattle.std.specs.Str.{bytes_eq}
 use Rattle.std.proofs.lemmas.Bool.{and_parts, eqb-true}
-use Rattle.debian_text.specs.Plain.{plain_bound, plain_relation}
-use Rattle.debian_text.specs.Relations.{BoundText}
 use Rattle.debian_text.specs.contracts.relation.OperatorPartialEq.TheImpl.{eq-value as of_operators}
-use Rattle.debian_text.specs.declared.relation.Bound.{Bound}
-use Rattle.debian_text.specs.declared.relation.Operator.{Operator}
-use Rattle.debian_text.specs.declared.relation.Operator.TheVariants.{Earlier, EarlierOrEqual, Equal, LaterOrEqual}
-use Rattle.debian_text.specs.declared.relation.Operator.TheVariants.{Later}
-use Rattle.debian_text.specs.declared.relation.Relation.{Relation}
-use Rattle.debian_provider.specs.Meaning.{plain_entry}
-use Rattle.debian_provider.specs.Sets.{plain_set}
-use Rattle.debian_provider.specs.Sets as text
+use Rattle.debian_provider.proofs.Words.{Bound, BoundText, Earlier, EarlierOrEqual, Equal, interned, interned_place}
+use Rattle.debian_provider.proofs.Words.{Later, LaterOrEqual, Operator, option_eq, option_map, plain_bound, plain_entry}
+use Rattle.debian_provider.proofs.Words.{plain_relation, plain_set, Relation, same_set, Set, slice_get}
 use Rattle.debian_provider.specs.contracts.set.SetPartialEq.TheImpl.{eq-value as of_sets}
-use Rattle.debian_provider.specs.declared.set.Set.{Set}
 use Rattle.debian_provider.specs.declared.set.Set.TheVariants.{All, Meeting, Spared, Beside}
-use Rattle.resolvo_pool.specs.Interned.{interned, interned_place}
-use Rattle.resolvo_pool.specs.Pool.{same_set}
 use Rattle.debian_provider.proofs.Named.{interned_at, same_bytes}
+use Rattle.debian_provider.specs.Sets as text
 
 same_options : {A B : Type 0} (view : A → B) (E : A → A → Bool) → ((x y : A) → E x y ≡ true → view x ≡ view y)
     → (a b : Option A) → option_eq E a b ≡ true → option_map view a ≡ option_map view b

@@ -1,24 +1,15 @@
 -- Names have their versions as the pool grows.
 use Rattle.std.proofs.Common.{◌≡◌, ◌∙◌, ℕ, zero, suc, ◌+◌, ◌<◌, ◌≤◌, List, [], ◌∷◌, ◌++◌, Option, None, Some, length}
 use Rattle.std.proofs.Common.{ap, arith, get_or, refl, subst, sym, inl, inr}
-use Rattle.std.specs.Prelude.{All, Any, Contains, option_map, slice_get, unwrap_or}
-use Rattle.std.specs.List.{AllZip}
-use Rattle.std.specs.declared.alloc.Global.{Global}
-use Rattle.std.specs.declared.vec.Vec.{Vec}
+use Rattle.std.specs.Prelude.{All}
 use Rattle.std.proofs.lemmas.Bool.{cases_lt, cases_order}
 use Rattle.std.proofs.lemmas.List.{length-append}
 use Rattle.std.proofs.lemmas.List.Elements.{All-cons, All-head, All-nil, All-tail, All-weaker}
 use Rattle.std.proofs.lemmas.Option.{none-some, same_Some, slice_get_past}
-use Rattle.debian_directory.specs.Answers.{NameText}
-use Rattle.debian_directory.specs.Plain.{plain_name}
-use Rattle.debian_directory.specs.declared.rules.Rules.{Rules}
-use Rattle.resolvo_pool.specs.Pool.{IsExtended, IsLater, nothing}
-use Rattle.resolvo_pool.specs.PoolIds.{solvable_name_in}
-use Rattle.resolvo_pool.specs.Types.Solvable.{Solvable}
-use Rattle.debian_provider.specs.Answers.{Ids, place_in, versions_at}
-use Rattle.debian_provider.specs.Growing.{AreNamed, HasMoreSets, HasVersions, IsAt, IsNameAdded, IsPlaceOf, IsVersion}
-use Rattle.debian_provider.specs.Meaning.{IsNamed}
-use Rattle.debian_provider.specs.declared.reached.Reached.{Reached}
+use Rattle.debian_provider.proofs.Words.{AllZip, Any, AreNamed, Contains, Global, HasMoreSets, HasVersions, Ids, IsAt}
+use Rattle.debian_provider.proofs.Words.{IsExtended, IsLater, IsNameAdded, IsNamed, IsPlaceOf, IsVersion, NameText}
+use Rattle.debian_provider.proofs.Words.{nothing, option_map, place_in, plain_name, Reached, Rules, slice_get, Solvable}
+use Rattle.debian_provider.proofs.Words.{unwrap_or, Vec, versions_at}
 use Rattle.debian_provider.proofs.Named.{named_still, seen_still}
 
 itself : {X : Type 0} (o : Option X) → option_map (λ (y : X). y) o ≡ o

@@ -1,26 +1,16 @@
 -- What was read stays so as an archive grows.
-use Rattle.std.proofs.Common.{◌≡◌, ◌∙◌, ℕ, ◌<◌, ◌≤◌, ◌+◌, List, [], ◌∷◌, ◌++◌, None, Some, Option, length, ap, arith}
+use Rattle.std.proofs.Common.{◌≡◌, ◌∙◌, ℕ, ◌<◌, ◌≤◌, List, [], ◌∷◌, ◌++◌, None, Some, Option, length, ap, arith}
 use Rattle.std.proofs.Common.{refl, subst, sym}
 use Rattle.std.proofs.Common.{inl, inr}
-use Rattle.std.specs.Prelude.{All, option_map, option_and_then, slice_get, Result, Ok, Err, IfOk}
-use Rattle.std.specs.declared.alloc.Global.{Global}
-use Rattle.std.specs.declared.vec.Vec.{Vec}
+use Rattle.std.specs.Prelude.{All}
 use Rattle.std.proofs.lemmas.Bool.{cases_lt}
 use Rattle.std.proofs.lemmas.List.{length-append}
 use Rattle.std.proofs.lemmas.List.Elements.{All-nil, All-weaker}
-use Rattle.debian_scenario.specs.Packages.{PackageText}
-use Rattle.debian_scenario.specs.Plain.{plain_package}
-use Rattle.debian_scenario.specs.declared.package.Package.{Package}
-use Rattle.debian_directory.specs.declared.rules.Rules.{Rules}
-use Rattle.resolvo_pool.specs.Dependencies.{Needs, Known, Unknown, needs_of}
-use Rattle.resolvo_pool.specs.Pool.{IsLater}
-use Rattle.resolvo_pool.specs.Types.ConditionalRequirement.{ConditionalRequirement}
-use Rattle.resolvo_pool.specs.Types.Dependencies.{Dependencies}
-use Rattle.debian_provider.specs.Answers.{Ids, package_in, place_in}
-use Rattle.debian_provider.specs.Growing.{AreNamed, IsGrown}
-use Rattle.debian_provider.specs.Needs.{AreNeeds, IsAnswer, IsDemand, IsLimit, IsThere}
-use Rattle.debian_provider.specs.Reading.{AreRead, AreRequired, IsRead, IsWhole, IsWider}
-use Rattle.debian_provider.specs.declared.archive.Archive.{Archive}
+use Rattle.debian_provider.proofs.Words.{Archive, AreNamed, AreNeeds, AreRead}
+use Rattle.debian_provider.proofs.Words.{Dependencies, Err, Global, Ids, IfOk, IsAnswer, IsDemand, IsGrown, IsLater}
+use Rattle.debian_provider.proofs.Words.{IsLimit, IsRead, IsThere, IsWhole, IsWider, Known, Needs, needs_of, Ok}
+use Rattle.debian_provider.proofs.Words.{option_and_then, option_map, Package, package_in, PackageText, place_in}
+use Rattle.debian_provider.proofs.Words.{plain_package, Result, Rules, slice_get, Unknown, Vec}
 use Rattle.debian_provider.proofs.Demands.{demand_later, demands_still}
 use Rattle.debian_provider.proofs.Later.{later_twice}
 use Rattle.debian_provider.proofs.More.{at_end}

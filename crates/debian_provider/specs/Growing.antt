@@ -1,5 +1,5 @@
 -- How an archive grows.
-use Rattle.std.specs.Prelude.{◌≡◌, ℕ, true, ◌+◌, ◌<◌, ◌≤◌, All, Any, Contains, List, Some, length, map, slice_get}
+use Rattle.std.specs.Prelude.{◌≡◌, ℕ, true, ◌+◌, ◌<◌, ◌≤◌, All, Any, List, Some, length, map, slice_get}
 use Rattle.std.specs.List.{AllZip}
 use Rattle.debian_scenario.specs.Packages.{PackageText}
 use Rattle.debian_scenario.specs.Plain.{plain_package, plain_request}

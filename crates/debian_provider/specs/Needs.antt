@@ -6,7 +6,7 @@ use Rattle.debian_scenario.specs.Packages.{PackageText}
 use Rattle.debian_installable.specs.Fields.{alternatives, is_blank}
 use Rattle.debian_installable.specs.Installable.{architecture_of, are_free, are_met, is_free, is_group_met}
 use Rattle.debian_installable.specs.Installable.{is_installable}
-use Rattle.debian_directory.specs.Answers.{NameText, is_answer, keeps_all, name_of}
+use Rattle.debian_directory.specs.Answers.{NameText, is_answer, is_lost, keeps_another, keeps_as_much, name_of}
 use Rattle.debian_directory.specs.Answers.{has as is_there}
 use Rattle.debian_directory.specs.declared.rules.Rules.{Rules}
 use Rattle.resolvo_ids.specs.Types.VersionSetId.{VersionSetId}
@@ -33,11 +33,6 @@ module _ (rules : Rules) where
   pub record IsAnswer (there : List PackageText) : Type 0 where
     pub known : All (Contains (packages_in rules)) there
     pub answers : is_answer (request_in rules) (packages_in rules) there ≡ true
-
-  -- an answer that keeps all that is to be kept
-  pub record IsKeeping (there : List PackageText) : Type 0 where
-    pub answer : IsAnswer there
-    pub keeps : keeps_all (request_in rules) (packages_in rules) there ≡ true
 
   -- the package can't be there
   abbrev pub IsNowhere : PackageText → Type 0
@@ -118,6 +113,17 @@ module _ (rules : Rules) where
     AreNeeds one (Known requirements constrains) =
         All (IsDemand (IsThere one)) requirements × All (IsLimit one) constrains
     AreNeeds one (Unknown reason) = IsNowhere one
+
+-- an answer that keeps all that these packages keep, and more
+pub record IsKeepingMore (few : List PackageText) (rules : Rules) (there : List PackageText) : Type 0 where
+  pub answer : IsAnswer rules there
+  pub as_much : keeps_as_much (request_in rules) (packages_in rules) few there ≡ true
+  pub another : keeps_another (request_in rules) (packages_in rules) few there ≡ true
+
+-- of the name of each of these packages that are lost the version sets have the set of all versions
+abbrev pub AreOfLost : List PackageText → Rules → Ids → List PackageText → List VersionSetId → Type 0
+AreOfLost few rules pool packages sets = (p : PackageText) → Contains packages p →
+    is_lost (request_in rules) (packages_in rules) few p ≡ true → HasSet pool sets (name_of (native_in rules) p) Whole
 
 -- the requirement is that a version of the name is there
 abbrev pub IsOneOf : Ids → NameText → Requirement → Type 0

@@ -1,5 +1,6 @@
 -- What an archive has once all that was reached was read.
 use Rattle.std.specs.Prelude.{◌≡◌, ℕ, ◌<◌, ◌≤◌, All, List, Some, length, option_map, slice_get}
+use Rattle.debian_scenario.specs.Packages.{PackageText}
 use Rattle.debian_scenario.specs.Plain.{plain_package}
 use Rattle.debian_scenario.specs.declared.package.Package.{Package}
 use Rattle.resolvo_pool.specs.Dependencies.{Needs, needs_of}
@@ -7,7 +8,7 @@ use Rattle.resolvo_pool.specs.Pool.{IsLater}
 use Rattle.resolvo_pool.specs.Types.ConditionalRequirement.{ConditionalRequirement}
 use Rattle.debian_provider.specs.Answers.{package_in}
 use Rattle.debian_provider.specs.Growing.{AreNamed}
-use Rattle.debian_provider.specs.Needs.{AreNeeds, IsAnswer, IsDemand, IsKeeping}
+use Rattle.debian_provider.specs.Needs.{AreNeeds, IsAnswer, IsDemand, IsKeepingMore}
 use Rattle.debian_provider.specs.declared.archive.Archive.{Archive}
 
 -- what the solvable's package needs was read
@@ -26,10 +27,10 @@ abbrev pub AreRequired : Archive → Type 0
 AreRequired archive =
     All (IsDemand archive.rules archive.reached.pool (IsAnswer archive.rules)) archive.requirements.items
 
--- each answer that keeps all that is to be kept has what these require
-abbrev pub AreKept : Archive → List ConditionalRequirement → Type 0
-AreKept archive requirements =
-    All (IsDemand archive.rules archive.reached.pool (IsKeeping archive.rules)) requirements
+-- each answer that keeps all that some packages keep, and more, has what these require
+abbrev pub AreKept : List PackageText → Archive → List ConditionalRequirement → Type 0
+AreKept few archive requirements =
+    All (IsDemand archive.rules archive.reached.pool (IsKeepingMore few archive.rules)) requirements
 
 -- of the same scenario, with more in its pool, and perhaps more that was read and is required
 pub record IsWider (old new : Archive) : Type 0 where

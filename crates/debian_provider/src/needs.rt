@@ -119,7 +119,10 @@ impl<'t> Archive<'_, 't> {
 
     /// That one of these version sets has what is picked.
     #[tactic(auto, using(crate::proofs::Offered::grown_itself))]
-    fn one_of(&mut self, sets: &[VersionSetId]) -> Result<Option<Requirement>, StoreError>
+    pub(crate) fn one_of(
+        &mut self,
+        sets: &[VersionSetId],
+    ) -> Result<Option<Requirement>, StoreError>
         requires { AreSetsHere self.old.reached.pool sets.now }
         ensures grown { OnOk result (IsGrown self.old self.new) }
         ensures sets { IfOk result (λ found. sets_in self.new.reached.pool found ≡ sets.now) }
@@ -197,7 +200,7 @@ impl<'t> Archive<'_, 't> {
     }
 
     /// Adds a version set of a name, unless it is there.
-    fn add_set(
+    pub(crate) fn add_set(
         &mut self,
         name: Name<'t>,
         set: Set<'t>,

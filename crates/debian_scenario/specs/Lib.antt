@@ -1,3 +1,4 @@
+pub mod FaultTexts
 pub mod Keys
 pub mod Packages
 pub mod Plain

@@ -1,8 +1,11 @@
 -- What a stanza asks for.
-use Rattle.std.specs.Prelude.{ℕ, true, false, List, Result, Ok}
+use Rattle.std.specs.Prelude.{ℕ, true, false, List, Result, Ok, Err, codes, if◌then◌else◌}
+use Rattle.std.specs.Str.{bytes_eq}
+use Rattle.debian_text.specs.Words.{trimmed}
 use Rattle.debian_scenario.specs.Results.{◌>>=◌}
 use Rattle.debian_scenario.specs.Values.{Values, flag_in, required_in, text_in, values_of, word_in}
 use Rattle.debian_scenario.specs.declared.fault.StanzaFault.{StanzaFault}
+use Rattle.debian_scenario.specs.declared.fault.StanzaFault.TheVariants.{Unreadable}
 use Rattle.debian_scenario.specs.declared.key.Key.TheVariants as Field
 use Rattle.debian_scenario.specs.declared.request.Actions.{Actions}
 
@@ -31,9 +34,16 @@ actions_in values = do
     strict_pinning = strict_pinning;
   })
 
+-- there is one protocol
+abbrev pub protocol_of : List ℕ → Result (List ℕ) StanzaFault
+protocol_of text = if bytes_eq (trimmed text) (codes "EDSP 0.5") then Ok text else Err (Unreadable Field.Request)
+
+abbrev pub protocol_in : Values → Result (List ℕ) StanzaFault
+protocol_in values = required_in Field.Request values >>= protocol_of
+
 abbrev pub request_in : Values → Result RequestText StanzaFault
 request_in values = do
-  protocol ← required_in Field.Request values
+  protocol ← protocol_in values
   architecture ← word_in Field.Architecture values
   actions ← actions_in values
   Ok (record {

@@ -1,5 +1,6 @@
 //! Why a scenario can't be read.
-ghost use Rattle.std.specs.Prelude.{◌≡◌};
+ghost use Rattle.std.specs.Prelude.{◌≡◌, Some};
+ghost use Rattle.debian_scenario.specs.FaultTexts.{fault_text};
 ghost use Rattle.debian_scenario.specs.declared.fault.ReadError.TheVariants.{OutOfMemory};
 
 use crate::key::Key;
@@ -47,6 +48,8 @@ impl<T: Drop> From<AllocFailed<T>> for ReadError {
 
 /// As `no field Version`.
 impl fmt::Display for StanzaFault {
+    ghost output = { λ fault. Some (fault_text fault) };
+
     fn fmt<W: fmt::Write>(&self, f: &mut fmt::Formatter<W>) -> fmt::Result {
         match self {
             StanzaFault::NoColon => f.write_str("a field without a colon"),

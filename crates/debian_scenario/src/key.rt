@@ -1,5 +1,5 @@
 //! The fields that count.
-ghost use Rattle.std.specs.Prelude.{◌≡◌, ◌<◌};
+ghost use Rattle.std.specs.Prelude.{◌≡◌, ◌<◌, Some};
 ghost use Rattle.debian_scenario.specs.Keys.{key_of, name_of, place};
 
 use std::fmt;
@@ -138,6 +138,8 @@ impl Key {
 
 /// As its name.
 impl fmt::Display for Key {
+    ghost output = { λ key. Some (name_of key) };
+
     fn fmt<W: fmt::Write>(&self, f: &mut fmt::Formatter<W>) -> fmt::Result {
         f.write_str(self.name())
     }

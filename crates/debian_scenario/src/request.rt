@@ -1,12 +1,13 @@
 //! What apt asks for.
 ghost use Rattle.std.specs.Prelude.{◌≡◌};
 ghost use Rattle.debian_scenario.specs.Plain.{plain_request, plain_stanza};
-ghost use Rattle.debian_scenario.specs.Requests.{actions_in, request_in};
+ghost use Rattle.debian_scenario.specs.Requests.{actions_in, protocol_in, request_in};
 ghost use Rattle.debian_scenario.specs.Results.{result_map};
 
 use crate::fault::StanzaFault;
 use crate::key::Key;
 use crate::stanza::Stanza;
+use debian_text::trimmed;
 
 /// What apt asks for.
 #[derive(Clone, Copy)]
@@ -38,7 +39,7 @@ impl<'t> Request<'t> {
     pub(crate) fn of(stanza: &Stanza<'t>) -> Result<Request<'t>, StanzaFault>
         ensures { result_map plain_request result ≡ request_in (plain_stanza stanza.now) }
     {
-        let _protocol = stanza.required(Key::Request)?;
+        let _protocol = protocol(stanza)?;
         let architecture = stanza.word(Key::Architecture)?;
         let actions = Actions::of(stanza)?;
         Ok(Request {
@@ -47,6 +48,17 @@ impl<'t> Request<'t> {
             remove: stanza.text(Key::Remove),
             actions,
         })
+    }
+}
+
+/// The protocol, which has to be EDSP 0.5.
+fn protocol<'t>(stanza: &Stanza<'t>) -> Result<&'t [u8], StanzaFault>
+    ensures { result_map (λ text. text.now) result ≡ protocol_in (plain_stanza stanza.now) }
+{
+    let text = stanza.required(Key::Request)?;
+    match trimmed(text) {
+        b"EDSP 0.5" => Ok(text),
+        _ => Err(StanzaFault::Unreadable(Key::Request)),
     }
 }
 

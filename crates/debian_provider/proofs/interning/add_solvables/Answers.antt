@@ -1,11 +1,6 @@
 use Rattle.std.proofs.Common.{◌∙◌, ℕ, ◌≤◌, ◌+◌, [], ◌∷◌, ◌++◌, ap, arith, get_or, length, subst, sym, take}
-use Rattle.std.specs.Prelude.{slice_get}
-use Rattle.std.specs.List.{AllZip}
 use Rattle.std.proofs.lemmas.List.{take_all, take_more}
-use Rattle.resolvo_pool.specs.Pool.{IsLater}
-use Rattle.resolvo_pool.specs.Types.Solvable.{Solvable}
-use Rattle.debian_provider.specs.Answers.{AreHere}
-use Rattle.debian_provider.specs.Growing.{IsAt}
+use Rattle.debian_provider.proofs.Words.{AllZip, AreHere, IsAt, IsLater, slice_get, Solvable}
 use Rattle.debian_provider.proofs.Growing.{here_pushed, here_still}
 use Rattle.debian_provider.proofs.Later.{extended_longer, later_twice, later_with_solvable}
 use Rattle.debian_provider.proofs.More.{at_end}

@@ -1,8 +1,5 @@
 use Rattle.std.proofs.Common.{◌≡◌, ◌≤◌, length, take}
-use Rattle.std.specs.List.{AllZip}
-use Rattle.resolvo_pool.specs.Pool.{IsLater}
-use Rattle.debian_provider.specs.Answers.{AreHere}
-use Rattle.debian_provider.specs.Growing.{IsAt}
+use Rattle.debian_provider.proofs.Words.{AllZip, AreHere, IsAt, IsLater}
 use Rattle.debian_provider.proofs.interning.add_solvables.Given as goal
 
 -- the solvables so far are in the pool, and what was in it is

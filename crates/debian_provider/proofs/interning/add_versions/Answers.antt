@@ -1,6 +1,5 @@
 use Rattle.std.proofs.Common.{◌≡◌, ◌≤◌, ◌+◌, Some, length, subst, sym}
-use Rattle.std.specs.Prelude.{option_map, slice_get}
-use Rattle.debian_directory.specs.Plain.{plain_name}
+use Rattle.debian_provider.proofs.Words.{option_map, plain_name, slice_get}
 use Rattle.debian_provider.proofs.Later.{later_twice}
 use Rattle.debian_provider.proofs.interning.add_versions.Goals as goal
 

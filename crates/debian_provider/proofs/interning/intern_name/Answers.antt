@@ -1,8 +1,5 @@
 use Rattle.std.proofs.Common.{◌∙◌, ◌≤◌, ◌+◌, ap, length, subst, sym}
-use Rattle.std.specs.Prelude.{option_map, slice_get}
-use Rattle.debian_directory.specs.Plain.{plain_name}
-use Rattle.resolvo_pool.specs.Interned.{interned}
-use Rattle.resolvo_pool.specs.Pool.{IsLater}
+use Rattle.debian_provider.proofs.Words.{interned, IsLater, option_map, plain_name, slice_get}
 use Rattle.debian_provider.proofs.Later.{interned_one_more, later_with_name}
 use Rattle.debian_provider.proofs.Named.{interned_at, same_names, NameEq}
 use Rattle.debian_provider.proofs.interning.intern_name.Goals as goal

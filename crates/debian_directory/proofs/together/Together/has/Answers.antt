@@ -16,8 +16,8 @@ returns c =
     let packages = map plain_package own.packages.now in
     let name = plain_name c.args.name in
     let test = is_of_name own.native.now name in
-    let places = places_of own.directory name.name in
+    let places = places_of own.directory.now name.name in
     any_from_yields_List (any_at test packages) _ _ c.any.result c.any.ensures.ran
     (YieldsList-from_slice places (cc)) (λ x b q k. search (rules, tests))
     ∙ list_any-places test packages places
-    (λ place p at e. placed_by_name packages own.directory own.of_packages place p at name.name (and_parts _ _ e).0)
+    (λ place p at e. placed_by_name packages own.directory.now own.of_packages place p at name.name (and_parts _ _ e).0)

@@ -17,10 +17,10 @@ returns c =
     let one = plain_package c.args.one.now in
     let relation = plain_relation c.in-Some.relation in
     let test = is_free_of own.native.now one relation in
-    let places = places_of own.directory relation.name in
+    let places = places_of own.directory.now relation.name in
     all_from_yields_List (all_at test packages) _ _ c.all.result c.all.ensures.ran
     (YieldsList-from_slice places (cc)) (λ x b q k. search (rules, tests))
     ∙ list_all-places test packages places
-    (λ place p at e. placed_by_relation packages own.directory own.of_packages place p at relation
+    (λ place p at e. placed_by_relation packages own.directory.now own.of_packages place p at relation
     (and_parts _ _ (not-false _ (or_parts _ _ e).1)).0)
     ∙ ap (is_free own.native.now packages one) c.in-Some.ensures

@@ -17,10 +17,10 @@ returns c =
     let one = plain_package c.args.one.now in
     let relation = plain_relation c.in-Some.relation in
     let test = is_met_by own.native.now one relation in
-    let places = places_of own.directory relation.name in
+    let places = places_of own.directory.now relation.name in
     any_from_yields_List (any_at test packages) _ _ c.any.result c.any.ensures.ran
     (YieldsList-from_slice places (cc)) (λ x b q k. search (rules, tests))
     ∙ list_any-places test packages places
-    (λ place p at e. placed_by_relation packages own.directory own.of_packages place p at relation
+    (λ place p at e. placed_by_relation packages own.directory.now own.of_packages place p at relation
     (and_parts _ _ e).0)
     ∙ ap (is_met own.native.now packages one) c.in-Some.ensures

@@ -15,9 +15,9 @@ returns c =
     let packages = map plain_package own.packages.now in
     let one = plain_package c.args.one.now in
     let test = may_stand_beside own.native.now one in
-    let places = places_of own.directory one.identity.name in
+    let places = places_of own.directory.now one.identity.name in
     all_from_yields_List (all_later c.args.place test packages) _ _ c.all.result c.all.ensures.ran
     (YieldsList-from_slice places (cc)) (λ x b q k. search (rules, tests))
     ∙ list_all-later c.args.place test packages places
-    (λ place p at e. placed_by_name packages own.directory own.of_packages place p at one.identity.name
+    (λ place p at e. placed_by_name packages own.directory.now own.of_packages place p at one.identity.name
     (not-false _ (or_parts _ _ e).0))

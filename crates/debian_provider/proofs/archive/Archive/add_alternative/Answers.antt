@@ -1,8 +1,5 @@
 use Rattle.std.proofs.Common.{Option, subst}
-use Rattle.std.specs.Prelude.{OnOk}
-use Rattle.debian_text.specs.Relations.{RelationText}
-use Rattle.debian_scenario.specs.Plain.{plain_package}
-use Rattle.debian_provider.specs.Needs.{IsOffered}
+use Rattle.debian_provider.proofs.Words.{IsOffered, OnOk, plain_package, RelationText}
 use Rattle.debian_provider.proofs.archive.Archive.add_alternative.Goals as goal
 
 pub returns-clause-offered : goal.returns-clause-offered

@@ -1,7 +1,5 @@
 use Rattle.std.proofs.Common.{subst, sym}
-use Rattle.debian_text.specs.Plain.{plain_relation}
-use Rattle.debian_scenario.specs.Plain.{plain_package}
-use Rattle.debian_provider.specs.Needs.{IsFreeFor}
+use Rattle.debian_provider.proofs.Words.{IsFreeFor, plain_package, plain_relation}
 use Rattle.debian_provider.proofs.Offered.{grown_itself, grown_twice}
 use Rattle.debian_provider.proofs.archive.Archive.add_conflict.Goals as goal
 

@@ -1,7 +1,4 @@
-use Rattle.debian_text.specs.Plain.{plain_relation}
-use Rattle.debian_scenario.specs.Plain.{plain_package}
-use Rattle.debian_provider.specs.Growing.{IsGrown}
-use Rattle.debian_provider.specs.Needs.{AreLimited, IsFreeFor}
+use Rattle.debian_provider.proofs.Words.{AreLimited, IsFreeFor, IsGrown, plain_package, plain_relation}
 use Rattle.debian_provider.proofs.archive.Archive.add_conflict.Given as goal
 
 -- what was added so far limits the package

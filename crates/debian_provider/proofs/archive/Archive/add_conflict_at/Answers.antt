@@ -1,7 +1,5 @@
 use Rattle.std.proofs.Common.{◌∙◌, sym}
-use Rattle.debian_text.specs.Plain.{plain_relation}
-use Rattle.debian_scenario.specs.Plain.{plain_package}
-use Rattle.debian_directory.specs.Plain.{plain_name}
+use Rattle.debian_provider.proofs.Words.{plain_name, plain_package, plain_relation}
 use Rattle.debian_provider.proofs.Limits.{spares_conflict}
 use Rattle.debian_provider.proofs.Offered.{on_ok}
 use Rattle.debian_provider.proofs.archive.Archive.add_conflict_at.Goals as goal

@@ -1,9 +1,8 @@
-use Rattle.std.proofs.Common.{◌==◌, ◌∙◌, rules, subst, sym, tests}
+use Rattle.std.proofs.Common.{◌==◌, rules, subst, sym, tests}
 use Rattle.std.proofs.lemmas.Bool.{MatchBool-at_false, MatchBool-at_true}
 use Rattle.std.proofs.lemmas.Iterator.Consumers.{YieldsList-turn}
 use Rattle.std.proofs.lemmas.Iterator.Splits.{YieldsList-from_slice_split}
-use Rattle.debian_scenario.specs.Plain.{plain_package}
-use Rattle.debian_provider.specs.Needs.{AreFreeFor, IsNowhere}
+use Rattle.debian_provider.proofs.Words.{AreFreeFor, IsNowhere, plain_package}
 use Rattle.debian_provider.proofs.Demands.{part_free_for}
 use Rattle.debian_provider.proofs.Offered.{grown_itself, grown_twice}
 use Rattle.debian_provider.proofs.archive.Archive.add_conflicts.Goals as goal

@@ -1,6 +1,4 @@
-use Rattle.debian_scenario.specs.Plain.{plain_package}
-use Rattle.debian_provider.specs.Growing.{IsGrown}
-use Rattle.debian_provider.specs.Needs.{AreFreeFor, AreLimited}
+use Rattle.debian_provider.proofs.Words.{AreFreeFor, AreLimited, IsGrown, plain_package}
 use Rattle.debian_provider.proofs.archive.Archive.add_conflicts.Given as goal
 
 -- so of what was read so far

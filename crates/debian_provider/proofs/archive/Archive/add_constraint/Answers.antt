@@ -1,10 +1,5 @@
 use Rattle.std.proofs.Common.{◌≡◌, ◌∙◌, subst, sym}
-use Rattle.debian_scenario.specs.Plain.{plain_package}
-use Rattle.debian_directory.specs.Answers.{NameText, name_of}
-use Rattle.debian_directory.specs.Plain.{plain_name}
-use Rattle.debian_provider.specs.Growing.{native_in}
-use Rattle.debian_provider.specs.Needs.{Spares}
-use Rattle.debian_provider.specs.Sets.{plain_set}
+use Rattle.debian_provider.proofs.Words.{name_of, NameText, native_in, plain_name, plain_package, plain_set, Spares}
 use Rattle.debian_provider.proofs.Named.{apart_names}
 use Rattle.debian_provider.proofs.Offered.{on_ok}
 use Rattle.debian_provider.proofs.archive.Archive.add_constraint.Goals as goal

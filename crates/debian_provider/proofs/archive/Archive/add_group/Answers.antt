@@ -1,7 +1,5 @@
 use Rattle.std.proofs.Common.{◌≡◌, ◌∙◌, [], None, Some, false, subst, sym}
-use Rattle.debian_scenario.specs.Plain.{plain_package}
-use Rattle.debian_installable.specs.Fields.{is_blank}
-use Rattle.debian_provider.specs.Needs.{AreDemanded, IsGroupOffered, IsThere, sets_in}
+use Rattle.debian_provider.proofs.Words.{AreDemanded, is_blank, IsGroupOffered, IsThere, plain_package, sets_in}
 use Rattle.debian_provider.proofs.Demands.{demands_more, group_demand, group_nowhere}
 use Rattle.debian_provider.proofs.Offered.{grown_itself}
 use Rattle.debian_provider.proofs.archive.Archive.add_group.Goals as goal

@@ -1,8 +1,5 @@
 use Rattle.std.proofs.Common.{◌≡◌, ◌∙◌, subst, sym, true}
-use Rattle.debian_scenario.specs.Plain.{plain_package}
-use Rattle.debian_directory.specs.Answers.{NameText, must_stay}
-use Rattle.debian_provider.specs.Growing.{packages_in, request_in}
-use Rattle.debian_provider.specs.Needs.{IsWanted}
+use Rattle.debian_provider.proofs.Words.{IsWanted, must_stay, NameText, packages_in, plain_package, request_in}
 use Rattle.debian_provider.proofs.Offered.{grown_itself}
 use Rattle.debian_provider.proofs.Wants.{wanted_stays}
 use Rattle.debian_provider.proofs.Wider.{wider_by}

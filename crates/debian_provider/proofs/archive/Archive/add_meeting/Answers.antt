@@ -1,10 +1,6 @@
 use Rattle.std.proofs.Common.{◌≡◌, ℕ, ◌<◌, List, ap, arith, below_more, get_or, length, subst}
-use Rattle.debian_text.specs.Plain.{plain_relation}
-use Rattle.debian_scenario.specs.Plain.{plain_package}
-use Rattle.debian_installable.specs.Installable.{architecture_of}
-use Rattle.debian_directory.specs.Answers.{NameText}
-use Rattle.debian_provider.specs.Growing.{native_in}
-use Rattle.debian_provider.specs.Needs.{IsOfferedAt}
+use Rattle.debian_provider.proofs.Words.{architecture_of, IsOfferedAt, NameText, native_in, plain_package}
+use Rattle.debian_provider.proofs.Words.{plain_relation}
 use Rattle.debian_provider.specs.Sets.{Meeting}
 use Rattle.debian_provider.proofs.Offered.{added_twice, meeting_offered, offered_still}
 use Rattle.debian_provider.proofs.archive.Archive.add_meeting.Goals as goal

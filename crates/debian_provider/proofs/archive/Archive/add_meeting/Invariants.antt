@@ -1,7 +1,5 @@
 use Rattle.std.proofs.Common.{ℕ, ◌<◌, get_or}
-use Rattle.debian_provider.specs.Growing.{IsAdded}
-use Rattle.debian_provider.specs.Needs.{IsOfferedAt}
-use Rattle.debian_provider.specs.Sets.{plain_set}
+use Rattle.debian_provider.proofs.Words.{IsAdded, IsOfferedAt, plain_set}
 use Rattle.debian_provider.proofs.archive.Archive.add_meeting.Given as goal
 
 -- what meets the relation at the places so far is offered

@@ -1,8 +1,6 @@
 use Rattle.std.proofs.Common.{◌≡◌, ◌∙◌, subst, sym}
 use Rattle.std.proofs.lemmas.Bool.{not-false}
-use Rattle.debian_scenario.specs.Plain.{plain_package}
-use Rattle.debian_directory.specs.Plain.{plain_name}
-use Rattle.debian_provider.specs.Needs.{SparesOther}
+use Rattle.debian_provider.proofs.Words.{plain_name, plain_package, SparesOther}
 use Rattle.debian_provider.proofs.Limits.{spares_beside}
 use Rattle.debian_provider.proofs.Named.{same_bytes}
 use Rattle.debian_provider.proofs.Offered.{on_ok}

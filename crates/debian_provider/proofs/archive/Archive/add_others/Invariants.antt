@@ -1,6 +1,4 @@
-use Rattle.debian_scenario.specs.Plain.{plain_package}
-use Rattle.debian_provider.specs.Growing.{IsGrown}
-use Rattle.debian_provider.specs.Needs.{AreLimited}
+use Rattle.debian_provider.proofs.Words.{AreLimited, IsGrown, plain_package}
 use Rattle.debian_provider.proofs.archive.Archive.add_others.Given as goal
 
 -- what was added so far limits the package

@@ -1,12 +1,7 @@
-use Rattle.std.proofs.Common.{◌≡◌, ◌∙◌, None, Some, false, ap, subst, sym, true}
-use Rattle.std.specs.Prelude.{option_map}
+use Rattle.std.proofs.Common.{◌≡◌, ◌∙◌, None, Some, false, ap, sym}
 use Rattle.std.proofs.lemmas.Bool.{false≢true}
-use Rattle.debian_text.specs.Plain.{plain_relation}
-use Rattle.debian_text.specs.Relations.{relation_of}
-use Rattle.debian_scenario.specs.Plain.{plain_package}
-use Rattle.debian_installable.specs.Fields.{is_blank}
-use Rattle.debian_installable.specs.Installable.{is_free}
-use Rattle.debian_provider.specs.Growing.{native_in}
+use Rattle.debian_provider.proofs.Words.{is_blank, is_free, native_in, option_map, plain_package, plain_relation}
+use Rattle.debian_provider.proofs.Words.{relation_of}
 use Rattle.debian_provider.proofs.Offered.{grown_itself}
 use Rattle.debian_provider.proofs.archive.Archive.add_part.Goals as goal
 

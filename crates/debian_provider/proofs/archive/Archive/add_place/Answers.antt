@@ -1,10 +1,9 @@
-use Rattle.std.proofs.Common.{◌∙◌, ℕ, List, [], ◌∷◌, ◌++◌, ap, subst, sym}
-use Rattle.std.specs.Prelude.{All, Contains}
+use Rattle.std.proofs.Common.{◌∙◌, ℕ, List, [], ◌∷◌, ap, subst, sym}
+use Rattle.std.specs.Prelude.{All}
 use Rattle.std.proofs.lemmas.Bool.{false≢true}
 use Rattle.std.proofs.lemmas.List.Elements.{All-push, Contains-append_left, Contains-push}
-use Rattle.debian_directory.specs.Plain.{plain_name}
 use Rattle.debian_directory.proofs.Places.{is_among}
-use Rattle.debian_provider.specs.Growing.{IsPlaceOf}
+use Rattle.debian_provider.proofs.Words.{Contains, IsPlaceOf, plain_name}
 use Rattle.debian_provider.proofs.Picks.{contains_place}
 use Rattle.debian_provider.proofs.archive.Archive.add_place.Goals as goal
 

@@ -1,5 +1,5 @@
 use Rattle.std.proofs.Common.{◌∙◌, ap, map}
-use Rattle.debian_directory.specs.Plain.{plain_name}
+use Rattle.debian_provider.proofs.Words.{plain_name}
 use Rattle.debian_provider.proofs.Offered.{grown_itself}
 use Rattle.debian_provider.proofs.Wants.{asked_at}
 use Rattle.debian_provider.proofs.Wider.{wider_by, wider_twice}

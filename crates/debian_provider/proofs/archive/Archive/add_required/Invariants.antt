@@ -1,6 +1,4 @@
-use Rattle.debian_scenario.specs.Plain.{plain_package}
-use Rattle.debian_provider.specs.Growing.{IsGrown}
-use Rattle.debian_provider.specs.Needs.{AreDemanded, AreMetFor}
+use Rattle.debian_provider.proofs.Words.{AreDemanded, AreMetFor, IsGrown, plain_package}
 use Rattle.debian_provider.proofs.archive.Archive.add_required.Given as goal
 
 -- so of what was read so far

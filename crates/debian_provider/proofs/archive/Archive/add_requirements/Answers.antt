@@ -1,7 +1,6 @@
 use Rattle.std.proofs.Common.{subst, sym}
 use Rattle.std.proofs.lemmas.Bool.{MatchBool-at_false, MatchBool-at_true}
-use Rattle.debian_scenario.specs.Plain.{plain_package}
-use Rattle.debian_provider.specs.Needs.{AreDemanded, AreMetFor, IfReadable, IsNowhere}
+use Rattle.debian_provider.proofs.Words.{AreDemanded, AreMetFor, IfReadable, IsNowhere, plain_package}
 use Rattle.debian_provider.proofs.Demands.{if_ok, parts, readable_then}
 use Rattle.debian_provider.proofs.Offered.{grown_then}
 use Rattle.debian_provider.proofs.archive.Archive.add_requirements.Goals as goal

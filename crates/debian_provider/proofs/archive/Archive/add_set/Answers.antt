@@ -1,12 +1,6 @@
 use Rattle.std.proofs.Common.{◌≡◌, ◌∙◌, ◌==◌, List, subst, sym, true}
-use Rattle.std.specs.Prelude.{Contains}
-use Rattle.std.specs.List.{list_any}
 use Rattle.std.proofs.lemmas.List.Elements.{Contains-push}
-use Rattle.debian_directory.specs.Plain.{plain_name}
-use Rattle.resolvo_ids.specs.Types.VersionSetId.{VersionSetId}
-use Rattle.debian_provider.specs.Growing.{IsAdded}
-use Rattle.debian_provider.specs.Needs.{AreLimited}
-use Rattle.debian_provider.specs.Sets.{plain_set}
+use Rattle.debian_provider.proofs.Words.{AreLimited, Contains, IsAdded, list_any, plain_name, plain_set, VersionSetId}
 use Rattle.debian_provider.proofs.Limits.{limit_by, limited_more, limited_still}
 use Rattle.debian_provider.proofs.Named.{contains_set, has_set}
 use Rattle.debian_provider.proofs.Offered.{added_none, added_one, grown_more}

@@ -1,4 +1,4 @@
-use Rattle.debian_provider.specs.Sets.{plain_set}
+use Rattle.debian_provider.proofs.Words.{plain_set}
 use Rattle.debian_provider.proofs.Offered.{got_some, offered_at_then}
 use Rattle.debian_provider.proofs.archive.Archive.add_set_at.Goals as goal
 

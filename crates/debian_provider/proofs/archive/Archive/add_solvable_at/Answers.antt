@@ -1,5 +1,3 @@
-use Rattle.std.specs.Prelude.{OnOk}
-use Rattle.debian_provider.specs.Growing.{IsGrown}
 use Rattle.debian_provider.proofs.Offered.{grown_itself, ok_any}
 use Rattle.debian_provider.proofs.archive.Archive.add_solvable_at.Goals as goal
 

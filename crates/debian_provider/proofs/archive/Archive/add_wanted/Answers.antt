@@ -1,6 +1,5 @@
 use Rattle.std.proofs.lemmas.Result.{on_ok_weaker}
-use Rattle.debian_directory.specs.Plain.{plain_name}
-use Rattle.debian_provider.specs.Needs.{IsAnswer}
+use Rattle.debian_provider.proofs.Words.{IsAnswer, plain_name}
 use Rattle.debian_provider.proofs.Wants.{wanted_demand, wider_required}
 use Rattle.debian_provider.proofs.archive.Archive.add_wanted.Goals as goal
 

@@ -1,4 +1,4 @@
-use Rattle.debian_provider.specs.Reading.{IsWider}
+use Rattle.debian_provider.proofs.Words.{IsWider}
 use Rattle.debian_provider.proofs.Offered.{on_ok}
 use Rattle.debian_provider.proofs.Wider.{wider_twice}
 use Rattle.debian_provider.proofs.archive.Archive.fill.Goals as goal

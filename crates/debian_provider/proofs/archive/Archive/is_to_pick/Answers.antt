@@ -1,11 +1,7 @@
 use Rattle.std.proofs.Common.{◌≡◌, ◌∙◌, Some, refl, sym}
-use Rattle.std.specs.Prelude.{slice_get}
 use Rattle.std.proofs.lemmas.Bool.{false≢true, not-false, not-true}
 use Rattle.std.proofs.lemmas.Option.{slice_get_past, slice_get_read}
-use Rattle.debian_directory.specs.Answers.{name_of}
-use Rattle.debian_directory.specs.Plain.{plain_name}
-use Rattle.debian_scenario.specs.Plain.{plain_package}
-use Rattle.debian_provider.specs.Growing.{native_in}
+use Rattle.debian_provider.proofs.Words.{name_of, native_in, plain_name, plain_package, slice_get}
 use Rattle.debian_provider.proofs.Named.{apart_names, same_names}
 use Rattle.debian_provider.proofs.Picks.{pick_may, pick_none, pick_other, pick_yes}
 use Rattle.debian_provider.proofs.archive.Archive.is_to_pick.Goals as goal

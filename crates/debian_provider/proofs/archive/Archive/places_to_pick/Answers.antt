@@ -1,9 +1,7 @@
-use Rattle.std.proofs.Common.{◌≡◌, ◌∙◌, ℕ, ◌<◌, ◌+◌, below_more, get_or, ap, arith, length, subst, sym}
-use Rattle.std.specs.Prelude.{All, Contains}
+use Rattle.std.proofs.Common.{below_more, get_or, arith, subst, sym}
+use Rattle.std.specs.Prelude.{All}
 use Rattle.std.proofs.lemmas.List.Elements.{All-nil}
-use Rattle.debian_directory.specs.Directory.{places_of}
-use Rattle.debian_directory.specs.Plain.{plain_name}
-use Rattle.debian_provider.specs.Growing.{IsPlaceOf}
+use Rattle.debian_provider.proofs.Words.{Contains, IsPlaceOf, plain_name}
 use Rattle.debian_provider.proofs.Picks.{all_found}
 use Rattle.debian_provider.proofs.archive.Archive.places_to_pick.Goals as goal
 

@@ -1,7 +1,6 @@
 use Rattle.std.proofs.Common.{ℕ, ◌<◌, get_or}
-use Rattle.std.specs.Prelude.{All, Contains}
-use Rattle.debian_directory.specs.Plain.{plain_name}
-use Rattle.debian_provider.specs.Growing.{IsPlaceOf}
+use Rattle.std.specs.Prelude.{All}
+use Rattle.debian_provider.proofs.Words.{Contains, IsPlaceOf, plain_name}
 use Rattle.debian_provider.proofs.archive.Archive.places_to_pick.Given as goal
 
 -- what was found is to be picked, and of the places so far each that is to be picked was found

@@ -1,8 +1,7 @@
 use Rattle.std.proofs.Common.{◌∙◌, Some, ap, get_or, sym}
-use Rattle.std.specs.Prelude.{option_map}
 use Rattle.std.proofs.lemmas.List.Quantifiers.{position-Some}
 use Rattle.std.proofs.lemmas.Option.{slice_get-get_or}
-use Rattle.debian_directory.specs.Plain.{plain_name}
+use Rattle.debian_provider.proofs.Words.{option_map, plain_name}
 use Rattle.debian_provider.proofs.Named.{same_names}
 use Rattle.debian_provider.proofs.archive.Archive.reach.Goals as goal
 

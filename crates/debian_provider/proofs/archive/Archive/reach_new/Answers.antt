@@ -1,6 +1,5 @@
 use Rattle.std.proofs.Common.{ℕ, List, refl, subst}
-use Rattle.debian_directory.specs.Plain.{plain_name}
-use Rattle.debian_provider.specs.Growing.{IsNameAdded}
+use Rattle.debian_provider.proofs.Words.{IsNameAdded, plain_name}
 use Rattle.debian_provider.proofs.Versions.{named_with_name}
 use Rattle.debian_provider.proofs.archive.Archive.reach_new.Goals as goal
 

@@ -2,8 +2,7 @@ use Rattle.std.proofs.Common.{subst, sym}
 use Rattle.std.specs.Prelude.{All}
 use Rattle.std.proofs.lemmas.Bool.{MatchBool-at_false, MatchBool-at_true}
 use Rattle.std.proofs.lemmas.List.Elements.{All-nil}
-use Rattle.debian_scenario.specs.Plain.{plain_package}
-use Rattle.debian_provider.specs.Needs.{IsDemand, IsLimit, IsNowhere, IsThere}
+use Rattle.debian_provider.proofs.Words.{IsDemand, IsLimit, IsNowhere, IsThere, plain_package}
 use Rattle.debian_provider.proofs.Demands.{demands_still}
 use Rattle.debian_provider.proofs.Offered.{grown_twice}
 use Rattle.debian_provider.proofs.archive.Archive.read_needs.Goals as goal

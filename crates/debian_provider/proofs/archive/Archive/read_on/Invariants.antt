@@ -1,4 +1,4 @@
-use Rattle.debian_provider.specs.Reading.{IsWider}
+use Rattle.debian_provider.proofs.Words.{IsWider}
 use Rattle.debian_provider.proofs.archive.Archive.read_on.Given as goal
 
 abbrev pub invariant-loop : goal.invariant-loop

@@ -1,13 +1,10 @@
 use Rattle.std.proofs.Common.{Bor, ◌≡◌, ◌<◌, ◌==◌, ℕ, List, [], length, rules, subst, sym, tests}
-use Rattle.std.specs.Prelude.{All, IfOk}
+use Rattle.std.specs.Prelude.{All}
 use Rattle.std.proofs.lemmas.Iterator.Consumers.{YieldsList-end}
 use Rattle.std.proofs.lemmas.Iterator.Splits.{YieldsList-from_slice_split}
 use Rattle.std.proofs.lemmas.List.Elements.{All-map, All-nil, All-push, All-weaker}
-use Rattle.debian_text.specs.Relations.{relation_of}
-use Rattle.debian_scenario.specs.Plain.{plain_package}
-use Rattle.resolvo_ids.specs.Types.VersionSetId.{VersionSetId}
-use Rattle.resolvo_pool.specs.Pool.{AreSetsHere}
-use Rattle.debian_provider.specs.Needs.{IsOffered, sets_in}
+use Rattle.debian_provider.proofs.Words.{AreSetsHere, IfOk, IsOffered, plain_package, relation_of, sets_in}
+use Rattle.debian_provider.proofs.Words.{VersionSetId}
 use Rattle.debian_provider.proofs.Offered.{added_twice, grown_then, offered_then}
 use Rattle.debian_provider.proofs.Offered.{relation_offered_still}
 use Rattle.debian_provider.proofs.archive.Archive.requirement.Goals as goal

@@ -1,9 +1,6 @@
 use Rattle.std.proofs.Common.{[]}
 use Rattle.std.specs.Prelude.{All}
-use Rattle.debian_text.specs.Relations.{relation_of}
-use Rattle.debian_scenario.specs.Plain.{plain_package}
-use Rattle.debian_provider.specs.Growing.{IsAdded}
-use Rattle.debian_provider.specs.Needs.{IsOffered}
+use Rattle.debian_provider.proofs.Words.{IsAdded, IsOffered, plain_package, relation_of}
 use Rattle.debian_provider.proofs.archive.Archive.requirement.Given as goal
 
 -- what meets the alternatives so far is offered

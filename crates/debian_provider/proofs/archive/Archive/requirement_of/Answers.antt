@@ -1,4 +1,4 @@
-use Rattle.debian_directory.specs.Plain.{plain_name}
+use Rattle.debian_provider.proofs.Words.{plain_name}
 use Rattle.debian_provider.specs.Sets.{All as Whole}
 use Rattle.debian_provider.proofs.Named.{is_set}
 use Rattle.debian_provider.proofs.Offered.{grown_more}

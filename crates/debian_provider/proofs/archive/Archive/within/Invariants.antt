@@ -1,8 +1,5 @@
 use Rattle.std.proofs.Common.{◌≡◌, ◌++◌, drop, ℕ, Bool, Some, List}
-use Rattle.resolvo_pool.specs.Provider.{filtered}
-use Rattle.debian_scenario.specs.declared.package.Package.{Package}
-use Rattle.debian_provider.specs.Answers.{Ids, package_in, set_has}
-use Rattle.debian_provider.specs.declared.set.Set.{Set}
+use Rattle.debian_provider.proofs.Words.{filtered, Ids, Package, package_in, Set, set_has}
 use Rattle.debian_provider.proofs.archive.Archive.within.Given as goal
 
 -- whether the set has a solvable's package

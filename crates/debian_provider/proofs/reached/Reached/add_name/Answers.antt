@@ -1,6 +1,5 @@
 use Rattle.std.proofs.Common.{◌≡◌, arith, length, subst, sym}
-use Rattle.std.specs.Prelude.{is_ok}
-use Rattle.debian_provider.specs.Answers.{AreKnown}
+use Rattle.debian_provider.proofs.Words.{AreKnown, is_ok}
 use Rattle.debian_provider.proofs.Growing.{known_if_pushed, known_still}
 use Rattle.debian_provider.proofs.Versions.{name_added}
 use Rattle.debian_provider.proofs.reached.Reached.add_name.Goals as goal

@@ -1,8 +1,5 @@
 use Rattle.std.proofs.Common.{◌∙◌, ap, refl}
-use Rattle.std.specs.Prelude.{option_map, slice_get}
-use Rattle.resolvo_pool.specs.Interned.{interned}
-use Rattle.resolvo_pool.specs.Pool.{same_set}
-use Rattle.debian_provider.specs.Meaning.{plain_entry}
+use Rattle.debian_provider.proofs.Words.{interned, option_map, plain_entry, same_set, slice_get}
 use Rattle.debian_provider.specs.contracts.set.SetPartialEq.TheImpl.{eq-value as of_sets}
 use Rattle.debian_provider.proofs.More.{more_by_set}
 use Rattle.debian_provider.proofs.SameSets.{entry_at}

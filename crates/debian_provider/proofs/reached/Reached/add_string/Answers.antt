@@ -1,5 +1,5 @@
 use Rattle.std.proofs.Common.{refl}
-use Rattle.std.specs.Prelude.{string_bytes}
+use Rattle.debian_provider.proofs.Words.{string_bytes}
 use Rattle.debian_provider.proofs.More.{more_by_string}
 use Rattle.debian_provider.proofs.reached.Reached.add_string.Goals as goal
 

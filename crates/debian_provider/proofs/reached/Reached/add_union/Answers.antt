@@ -1,5 +1,5 @@
 use Rattle.std.proofs.Common.{◌∙◌, ◌∷◌, ap, length, refl}
-use Rattle.std.specs.Prelude.{slice_get}
+use Rattle.debian_provider.proofs.Words.{slice_get}
 use Rattle.debian_provider.proofs.More.{at_end, more_by_union}
 use Rattle.debian_provider.proofs.reached.Reached.add_union.Goals as goal
 

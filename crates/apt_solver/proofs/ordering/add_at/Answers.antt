@@ -1,5 +1,5 @@
 use Rattle.apt_solver.proofs.Known.{add_known}
-use Rattle.apt_solver.proofs.answering.add_at.Goals as goal
+use Rattle.apt_solver.proofs.ordering.add_at.Goals as goal
 
 pub returns : goal.returns
 returns c =

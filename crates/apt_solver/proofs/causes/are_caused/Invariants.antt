@@ -1,8 +1,9 @@
 use Rattle.std.specs.Prelude.{map}
 use Rattle.debian_scenario.specs.Plain.{plain_package, plain_request}
 use Rattle.apt_solver.proofs.Caused.{HaveCausesBefore}
-use Rattle.apt_solver.proofs.causes.have_causes.Given as goal
+use Rattle.apt_solver.proofs.causes.are_caused.Given as goal
 
 abbrev pub invariant-loop-place : goal.invariant-loop-place
 invariant-loop-place l =
-    HaveCausesBefore (plain_request l.rules.request.now) (map plain_package l.rules.packages.now) l.there l.place
+    HaveCausesBefore (plain_request l.rules.request.now) (map plain_package l.rules.packages.now)
+    l.together.packages.now l.place

@@ -1,5 +1,5 @@
 use Rattle.std.proofs.Common.{All, Contains}
-use Rattle.apt_solver.proofs.answering.packages_at.Given as goal
+use Rattle.apt_solver.proofs.ordering.packages_at.Given as goal
 
 abbrev pub invariant-loop-place : goal.invariant-loop-place
 invariant-loop-place l = All (Contains l.packages) l.there.items
