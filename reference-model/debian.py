@@ -200,3 +200,17 @@ class Scenario:
             if it.full_name not in self.installed | self.asked
             and not any(self.brings_in(one, it, there[:place]) for one in there[:place])
         ]
+
+    def changed_in_vain(self, there):
+        """Those of these packages that have another version than the installed one, where that one could be in their
+        place. A name that is asked for may have another version, and in an upgrade of all each may."""
+        if self.says("Upgrade-All", "Upgrade", "Dist-Upgrade"):
+            return []
+        unasked = [it for it in there if not it.says("Installed") and it.full_name not in self.asked]
+        return [
+            it
+            for it in unasked
+            for other in self.packages
+            if other.says("Installed") and other.full_name == it.full_name
+            and self.is_answer([other if one is it else one for one in there])
+        ]

@@ -1,19 +1,16 @@
 -- Packages that have a cause.
-use Rattle.std.proofs.Common.{◌≡◌, ◌∙◌, ℕ, ◌<◌, ◌+◌, ◌++◌, ◌∷◌, ◌||◌, [], Bool, true, false, List, Some, ap, arith}
+use Rattle.std.proofs.Common.{◌≡◌, ◌∙◌, ℕ, ◌<◌, ◌+◌, ◌++◌, ◌∷◌, ◌||◌, [], Bool, true, false, List, ap, arith}
 use Rattle.std.proofs.Common.{get_or}
-use Rattle.std.proofs.Common.{inl, inr}
 use Rattle.std.proofs.Common.{length, map, refl, subst, sym}
-use Rattle.std.specs.Prelude.{option_map, slice_get, take}
+use Rattle.std.specs.Prelude.{take}
 use Rattle.std.specs.List.{list_any}
-use Rattle.std.proofs.lemmas.Bool.{cases_lt}
-use Rattle.std.proofs.lemmas.List.{length-map, length-take-le, map-append, take-map, take_at, take_more}
-use Rattle.std.proofs.lemmas.Option.{same_Some, slice_get-get_or, slice_get-map, slice_get_within}
+use Rattle.std.proofs.lemmas.List.{length-take-le, map-append, take-map, take_at, take_more}
 use Rattle.debian_scenario.specs.Packages.{PackageText}
 use Rattle.debian_scenario.specs.Plain.{plain_package}
 use Rattle.debian_scenario.specs.Requests.{RequestText}
 use Rattle.debian_scenario.specs.declared.package.Package.{Package}
 use Rattle.debian_directory.specs.Answers.{is_asked, is_name_installed, name_of}
-use Rattle.apt_solver.specs.Causes.{HaveCauses, brings_in, has_cause}
+use Rattle.apt_solver.specs.Causes.{brings_in, has_cause}
 
 -- one of three
 pub first_so : (a b c : Bool) → a ≡ true → (a || b || c) ≡ true
@@ -34,39 +31,10 @@ third_true false false = refl
 pub third_so : (a b c : Bool) → c ≡ true → (a || b || c) ≡ true
 third_so a b c so = subst (λ x. (a || b || x) ≡ true) (sym so) (third_true a b)
 
-module _ (request : RequestText) (packages : List PackageText) (there : List Package) where
-  abbrev texts : List PackageText
-  texts = map plain_package there
-
-  -- so of those before a place
-  abbrev pub HaveCausesBefore : ℕ → Type 0
-  HaveCausesBefore bound = (place : ℕ) (q : PackageText) → place < bound → slice_get texts place ≡ Some q
-      → has_cause request packages (take place texts) q ≡ true
-
-  pub none_before : HaveCausesBefore 0
-  none_before place q lt at = absurd (omega (arith, lt))
-
-  pub one_more : (bound : ℕ) (d : Package) → bound < length there → HaveCausesBefore bound
-      → has_cause request packages (take bound texts) (plain_package (get_or there bound d)) ≡ true
-      → HaveCausesBefore (bound + 1)
-  one_more bound d within so_far caused place q lt at =
-      elim (cases_lt place bound) [
-        | inl below ↦ so_far place q below at
-        | inr not_below ↦
-            let same : place ≡ bound = omega (arith, lt, not_below) in
-            let one : slice_get texts bound ≡ Some (plain_package (get_or there bound d)) =
-            slice_get-map plain_package there bound
-            ∙ ap (option_map plain_package) (slice_get-get_or there bound d within) in
-            let is : plain_package (get_or there bound d) ≡ q =
-            same_Some (plain_package (get_or there bound d)) q
-            (sym one ∙ subst (λ n. slice_get texts n ≡ Some q) same at) in
-            subst (λ n. has_cause request packages (take n texts) q ≡ true) (sym same)
-            (subst (λ (r : PackageText). has_cause request packages (take bound texts) r ≡ true) is caused)
-      ]
-
-  pub all_have : (bound : ℕ) → (bound < length there → ⊥) → HaveCausesBefore bound → HaveCauses request packages texts
-  all_have bound past so_far place q at =
-      so_far place q (omega (arith, past, slice_get_within texts place q at, length-map there plain_package)) at
+-- the package at a place has a cause
+abbrev pub HasCauseAt : RequestText → List PackageText → List Package → ℕ → PackageText → Type 0
+HasCauseAt request packages there place q =
+    has_cause request packages (take place (map plain_package there)) q ≡ true
 
 -- the packages up to a place, and those before it
 module _ (those there : List Package) (place : ℕ) (d : Package) (within : place < length those)

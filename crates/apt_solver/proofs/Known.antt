@@ -26,6 +26,7 @@ use Rattle.apt_solver.specs.Difference.{answer_text}
 use Rattle.apt_solver.specs.Errors.{none_text, unread_text}
 use Rattle.apt_solver.specs.Program.{IsSaidOf, IsSaidTo, KeepsMost}
 use Rattle.apt_solver.specs.Search.{HasNoSuch}
+use Rattle.apt_solver.specs.Versions.{ChangeInNeed}
 
 pub Contains-map : {X Y : Type 0} (f : X → Y) (xs : List X) (x : X) → Contains xs x → Contains (map f xs) (f x)
 Contains-map f xs x at =
@@ -45,15 +46,17 @@ pub checked_said : (request : RequestText) (packages there : List Package) (conf
     → confirmed ≡ is_answer request (map plain_package packages) (map plain_package there)
     → KeepsMost request (map plain_package packages) (map plain_package there)
     → HaveCauses request (map plain_package packages) (map plain_package there)
+    → ChangeInNeed request (map plain_package packages) (map plain_package there)
     → said ≡ answer_text request.architecture (map plain_package packages) (map plain_package there)
     → IsSaidOf request (map plain_package packages) said
-checked_said request packages there confirmed said known passed checked keeps caused is =
+checked_said request packages there confirmed said known passed checked keeps caused changes is =
     inl (inl (record {
       there = map plain_package there;
       known = known_texts packages there known;
       answers = sym checked ∙ passed;
       keeps = keeps;
       caused = caused;
+      changes = changes;
       is = is;
     }))
 

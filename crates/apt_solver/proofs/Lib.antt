@@ -2,6 +2,8 @@ pub mod Caused
 pub mod Changed
 pub mod Firsts
 pub mod Known
+pub mod Places
 pub mod Searched
 pub mod Solvable
 pub mod Stays
+pub mod Versioned

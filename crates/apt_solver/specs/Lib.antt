@@ -4,3 +4,4 @@ pub mod Difference
 pub mod Errors
 pub mod Program
 pub mod Search
+pub mod Versions

@@ -10,6 +10,7 @@ use Rattle.debian_directory.specs.Answers.{is_answer, keeps_another, keeps_as_mu
 use Rattle.apt_solver.specs.Causes.{HaveCauses}
 use Rattle.apt_solver.specs.Difference.{answer_text}
 use Rattle.apt_solver.specs.Errors.{SaysFault, none_text, not_answered, unread_text}
+use Rattle.apt_solver.specs.Versions.{ChangeInNeed}
 
 -- no answer keeps all that these packages keep, and more
 abbrev pub KeepsMost : RequestText → List PackageText → List PackageText → Type 0
@@ -24,6 +25,7 @@ pub record SaysAnswer (request : RequestText) (packages : List PackageText) (sai
   pub answers : is_answer request packages there ≡ true
   pub keeps : KeepsMost request packages there
   pub caused : HaveCauses request packages there
+  pub changes : ChangeInNeed request packages there
   pub is : said ≡ answer_text request.architecture packages there
 
 -- no packages of the scenario are an answer

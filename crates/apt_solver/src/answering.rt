@@ -14,6 +14,7 @@ use crate::difference::difference;
 use crate::errors::{fault_text, none_text, unread_text};
 use crate::finding::{Found, find};
 use crate::ordering::Ordered;
+use crate::versions::change_in_need;
 use debian_directory::{Directory, Rules, is_answer, keeps_all};
 use debian_scenario::{Package, Request, read};
 use std::alloc::{AllocError, Global};
@@ -108,8 +109,8 @@ fn answer_caused<'t>(
     }
 }
 
-/// What is said of these packages: that they are to be there, if checks confirm that they are an answer, and that they
-/// keep all if they are to.
+/// What is said of these packages: that they are to be there, if checks confirm that they are an answer, that they
+/// keep all if they are to, and that versions change only in need.
 fn answer_found<'t>(
     alloc: Global,
     rules: &Rules<'_, 't>,
@@ -125,7 +126,8 @@ fn answer_found<'t>(
 {
     let keeps = keeps_as_sought(alloc, rules, there, is_to_keep_all)?;
     let answers = is_answer(alloc, rules, there)?;
-    if keeps && answers {
+    let changes = change_in_need(alloc, rules, there)?;
+    if keeps && answers && changes {
         difference(alloc, rules, there)
     } else {
         unanswered(alloc, UNCONFIRMED)

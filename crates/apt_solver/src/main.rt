@@ -4,10 +4,11 @@
 //! error with the reasons (`answering`). `finding` makes a provider of the scenario (`debian_provider`), and searches
 //! for the solution that is the best by apt's wishes (`solving`, `wishes`, `recommending`). What it finds are packages.
 //! `ordering` brings them into an order in which each comes after its cause. Checks over the stanzas confirm that they
-//! are an answer (`debian_directory`) and have causes (`causes`), and `difference` says how they differ from what is
-//! installed. So that an answer is one doesn't rest on the search. That there is none, or none that keeps more, rests
-//! on the provider, which leaves out nothing that an answer may have, and on the check of what the search refutes. The
-//! exit status is 0 in both cases; it is 1 if standard input or output fails, or memory ends.
+//! are an answer (`debian_directory`), have causes (`causes`), and change no version in vain (`versions`).
+//! `difference` says how they differ from what is installed. So that an answer is one doesn't rest on the search. That
+//! there is none, or none that keeps more, rests on the provider, which leaves out nothing that an answer may have,
+//! and on the check of what the search refutes. The exit status is 0 in both cases; it is 1 if standard input or
+//! output fails, or memory ends.
 #![tactic(auto)]
 
 mod answering;
@@ -19,6 +20,7 @@ mod ordering;
 mod reasons;
 mod recommending;
 mod solving;
+mod versions;
 mod wishes;
 
 use answering::answer;

@@ -1,9 +1,11 @@
 use Rattle.std.specs.Prelude.{map}
 use Rattle.debian_scenario.specs.Plain.{plain_package, plain_request}
-use Rattle.apt_solver.proofs.Caused.{HaveCausesBefore}
+use Rattle.apt_solver.proofs.Caused.{HasCauseAt}
+use Rattle.apt_solver.proofs.Places.{HoldsBefore}
 use Rattle.apt_solver.proofs.causes.are_caused.Given as goal
 
 abbrev pub invariant-loop-place : goal.invariant-loop-place
 invariant-loop-place l =
-    HaveCausesBefore (plain_request l.rules.request.now) (map plain_package l.rules.packages.now)
-    l.together.packages.now l.place
+    HoldsBefore plain_package l.together.packages.now
+    (HasCauseAt (plain_request l.rules.request.now) (map plain_package l.rules.packages.now) l.together.packages.now)
+    l.place
