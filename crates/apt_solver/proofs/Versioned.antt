@@ -18,7 +18,7 @@ abbrev pub ChangesAt : RequestText → List PackageText → List Package → ℕ
 ChangesAt request packages there place p =
     is_changed request packages p ≡ true → All (IsNeededAt request packages (map plain_package there) place) packages
 
--- what holds of the first so many, and of the next one
+-- what holds of the first i packages, and of the next one
 pub one_further : (P : PackageText → Type 0) (xs : List Package) (i : ℕ) (d : Package) → i < length xs
     → All P (map plain_package (take i xs)) → P (plain_package (get_or xs i d))
     → All P (map plain_package (take (i + 1) xs))

@@ -44,7 +44,7 @@ fn are_caused<'t>(rules: &Rules<'_, 't>, together: &Together<'_, 't>, causes: &[
     true
 }
 
-/// Whether the last one of these packages has a cause, which may be one of the first so many, those before it.
+/// Whether the last of these packages has a cause. There are `before` packages before it, and each may be the cause.
 fn is_caused<'t>(
     rules: &Rules<'_, 't>,
     there: &Together<'_, 't>,
@@ -68,7 +68,7 @@ fn is_caused<'t>(
     is_brought_in(rules, there, before, cause)
 }
 
-/// Whether the one at a place of the first so many packages brings in the others.
+/// Whether the package at a place, one of the first `before`, brings in the others.
 fn is_brought_in<'t>(
     rules: &Rules<'_, 't>,
     there: &Together<'_, 't>,
@@ -90,7 +90,7 @@ fn is_brought_in<'t>(
     }
 }
 
-/// Whether a package brings in what came after the first so many: by a dependency, or by a recommendation if the
+/// Whether a package brings in what comes behind the first `before`: by a dependency, or by a recommendation if the
 /// package is new.
 #[tactic(auto, unfolding(crate::specs::Causes::brings_in))]
 fn brings_in<'t>(
@@ -111,7 +111,7 @@ fn brings_in<'t>(
             && has_newly_met(there, before, by, relations.recommends))
 }
 
-/// Whether a field of a package has a group that is met, and that the first so many packages don't meet.
+/// Whether a field of a package has a group that is met, and that the first `before` packages don't meet.
 fn has_newly_met<'t>(
     there: &Together<'_, 't>,
     before: usize,
@@ -127,7 +127,7 @@ fn has_newly_met<'t>(
         .any(|group| is_newly_met(there, before, by, group))
 }
 
-/// Whether a group of a package's relations is met, and the first so many packages don't meet it.
+/// Whether a group of a package's relations is met, and the first `before` packages don't meet it.
 fn is_newly_met<'t>(there: &Together<'_, 't>, before: usize, by: &Package<'t>, group: &[u8]) -> bool
     ensures { result ≡ spec.is_newly_met there.now.native.now (map plain_package (take before there.now.packages.now))
         (map plain_package there.now.packages.now) (plain_package by.now) group.now }
