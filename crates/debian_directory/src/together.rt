@@ -29,7 +29,7 @@ pub struct Together<'p, 't> {
 }
 
 impl<'p, 't> Together<'p, 't> {
-    /// The first so many of them.
+    /// The first `count` of them.
     pub fn first(&self, count: usize) -> Together<'p, 't>
         ensures native { result.native.now ≡ self.now.native.now }
         ensures packages { result.packages.now ≡ take count self.now.packages.now }
