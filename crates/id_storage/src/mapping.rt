@@ -154,6 +154,7 @@ impl<TId: DenseIndex, V, A: Allocator> Mapping<TId, V, A> {
 
     /// Makes the slots of each chunk up to the id's. From then on an `insert` at this id takes no memory, also after
     /// an `unset`.
+    #[inline(always)]
     pub fn make_room(&mut self, id: TId) -> Result<(), StoreError>
         ensures ok { OnOk result (self.new ≡ with_slots self.old (slots_for (TId.index_of id))) }
         ensures same { SameValues (value_at self.old) (value_at self.new) }
@@ -168,6 +169,22 @@ impl<TId: DenseIndex, V, A: Allocator> Mapping<TId, V, A> {
         if index < self.slots.len() {
             return Ok(());
         }
+        self.add_chunks(index)
+    }
+
+    /// Makes the slots of each chunk up to that of an index that has none. It is a call of its own, so that the check
+    /// for room costs none.
+    #[inline(never)]
+    fn add_chunks(&mut self, index: usize) -> Result<(), StoreError>
+        requires { length self.old ≤ index }
+        ensures ok { OnOk result (self.new ≡ with_slots self.old (slots_for index)) }
+        ensures same { SameValues (value_at self.old) (value_at self.new) }
+        ensures count { value_count self.new ≡ value_count self.old }
+        ensures slots { OnOk result (length self.new ≡ slots_for index) }
+        ensures err { OnErr result (self.new ≡ self.old) }
+        ensures refused { IfErr result (IsGrowthRefusal (is_too_dense index)) }
+        ensures too_dense { IsTrue (is_too_dense index) → result ≡ Err IdSpace }
+    {
         if index >= DENSE_LIMIT {
             return Err(StoreError::IdSpace);
         }

@@ -5,3 +5,4 @@ mod ExpansionLaws
 pub mod GatherLemmas
 pub mod JoinLemmas
 pub mod MergedLemmas
+pub mod SlotLemmas

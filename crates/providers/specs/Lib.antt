@@ -7,4 +7,5 @@ pub mod Provider
 pub mod Requirement
 pub mod RequirementMap
 pub mod RequirementMapLends
+pub mod RequirementSlots
 pub mod Texts

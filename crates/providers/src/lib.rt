@@ -3,9 +3,9 @@
 //!
 //! The two traits are in `interner` and `provider`; the words of their contracts are in `specs/Provider`,
 //! `specs/Dependencies` and `specs/Texts`. `candidates` and `dependencies` hold what a provider answers.
-//! `requirement`, `conditional_requirement` and `condition` are what packages ask of one another, and `requirement_map`
-//! is a map that is kept by requirements. The texts of requirements, of keys and of several solvables together are made
-//! in `requirement_text`, `root_text` and `merged_text`.
+//! `requirement`, `conditional_requirement` and `condition` are what packages ask of one another. `requirement_map` is
+//! a map that is kept by requirements; `requirement_slots` finds the places of its entries. The texts of requirements,
+//! of keys and of several solvables together are made in `requirement_text`, `root_text` and `merged_text`.
 //!
 //! A requirement may be asked for only under a condition, which joins version sets by "and" and "or". A solver wants it
 //! as a list of lists: the condition holds if, of one of the lists, each version set does. `normal_form` makes that
@@ -29,6 +29,7 @@ mod normal_form;
 mod provider;
 mod requirement;
 mod requirement_map;
+mod requirement_slots;
 mod requirement_text;
 mod root_text;
 mod version_sets;

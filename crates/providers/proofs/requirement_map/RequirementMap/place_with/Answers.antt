@@ -1,39 +1,29 @@
-use Rattle.std.proofs.Common.{rules, arith, ◌≡◌, None, is_some, ◌∙◌, ap, sym, refl, true≢false}
-use Rattle.std.specs.Map.{lookup}
-use Rattle.indexmap.specs.Entry.{entry_value, map_with_value}
+use Rattle.std.proofs.Common.{◌≡◌, Some, None, is_some, true≢false, sym, subst, ap, ◌∙◌, refl}
+use Rattle.id_storage.specs.StoredAnswers.{place_of}
+use Rattle.id_storage.proofs.AnswerLemmas.{no_answer, some_answer}
 use Rattle.providers.specs.Requirement.{same_requirement}
-use Rattle.providers.specs.RequirementMap.{with_entry}
-use Rattle.providers.proofs.EntryLemmas.{insert_entry-is, lookup_alike}
+use Rattle.providers.proofs.EntryLemmas.{place_at, kept_entry}
 use Rattle.providers.proofs.requirement_map.RequirementMap.place_with.Goals as goal
 
-pub returns-in_err-entry-clause-known : goal.returns-in_err-entry-clause-known
-returns-in_err-entry-clause-known g c = λ known.
+pub returns-in-Some-clause-place : goal.returns-in-Some-clause-place
+returns-in-Some-clause-place g c =
+    sym (place_at c.args.requirement c.args.self.now c.in-Some.place (sym c.place.ensures.place ∙ c.in-Some.is))
+
+pub returns-in-Some-clause-ok : goal.returns-in-Some-clause-ok
+returns-in-Some-clause-ok g c =
     let r = c.args.requirement in
-    let none : lookup (same_requirement r) c.args.self.now ≡ None =
-    ap (lookup (same_requirement r)) (sym c.self.view_is)
-    ∙ sym (lookup_alike r _ (λ q. search rules) c.self.inside.entries.entries)
-    ∙ c.in_err-entry.ensures.absent in
+    let es = c.args.self.now in
+    let at : place_of same_requirement es r ≡ Some c.in-Some.place = sym c.place.ensures.place ∙ c.in-Some.is in
+    kept_entry r es _ (sym (some_answer same_requirement es r c.in-Some.place at))
+
+pub add_default-requires : goal.add_default-requires
+add_default-requires g c =
+    let none = no_answer same_requirement c.args.self.now c.args.requirement
+    (sym c.place.ensures.place ∙ c.in-None.is) in
+    record { new = none; callable = (rw none at c.requires) refl }
+
+pub returns-in-None-clause-known : goal.returns-in-None-clause-known
+returns-in-None-clause-known g c = λ known.
+    let none = no_answer same_requirement c.args.self.now c.args.requirement
+    (sym c.place.ensures.place ∙ c.in-None.is) in
     absurd (true≢false (sym known ∙ ap is_some none))
-
-pub or_insert_with-requires : goal.or_insert_with-requires
-or_insert_with-requires g c = λ vacant.
-    let r = c.args.requirement in
-    let none : lookup (same_requirement r) c.args.self.now ≡ None =
-    ap (lookup (same_requirement r)) (sym c.self.view_is)
-    ∙ sym (lookup_alike r _ (λ q. search rules) c.self.inside.entries.entries)
-    ∙ sym c.in_ok-entry.ensures.value ∙ vacant in
-    (rw none at c.requires) refl
-
-pub returns-clause-ok : goal.returns-clause-ok
-returns-clause-ok g c =
-    let r = c.args.requirement in
-    let value = c.or_insert_with.result.now in
-    let written : (map_with_value c.in_ok-entry.entry value).entries ≡ with_entry c.args.self.now r value =
-    c.in_ok-entry.ensures.update.1 value
-    ∙ insert_entry-is _ (λ r q. search rules) c.self.inside.entries.entries r value
-    ∙ ap (λ es. with_entry es r value) c.self.view_is in
-    let found : lookup (same_requirement r) c.args.self.now ≡ entry_value c.in_ok-entry.entry =
-    ap (lookup (same_requirement r)) (sym c.self.view_is)
-    ∙ sym (lookup_alike r _ (λ q. search rules) c.self.inside.entries.entries)
-    ∙ sym c.in_ok-entry.ensures.value in
-    (value, grind arith, rw found (search rules))
