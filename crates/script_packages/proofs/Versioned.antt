@@ -1,12 +1,11 @@
 -- Solvables that are sorted with their versions are in the order of preference.
 use Rattle.std.proofs.Common.{◌≡◌, ℕ, ◌+◌, ◌<◌, List, [], ◌∷◌, refl, sym, ap, ap₂, subst, ◌∙◌, arith, IsPermutation}
 use Rattle.std.proofs.Common.{IsSorted, is_lt}
-use Rattle.std.proofs.Common.{nat_cmp, Ordering, Less, Equal, Greater}
 use Rattle.std.specs.Prelude.{map, length}
-use Rattle.std.proofs.lemmas.Cmp.{ranked, tied_itself, nat_cmp_total, on_total, back_total, then_total}
+use Rattle.std.proofs.lemmas.Cmp.{nat_cmp_total, on_total, back_total, then_total}
 use Rattle.std.proofs.lemmas.List.{get_or-map, length-map}
 use Rattle.indexmap.proofs.ReorderLemmas.{map-swap}
-use Rattle.script_packages.proofs.Words.{apply_swaps, best_first, IsTotalOrder, ordering_then, preference, Solvable}
+use Rattle.script_packages.proofs.Words.{apply_swaps, best_first, IsTotalOrder, preference, Solvable}
 use Rattle.script_packages.proofs.Words.{swap, SwapsInRange, Versioned, versioned_preference}
 use Rattle.script_packages.specs.Order.{with_version}
 use Rattle.script_packages.proofs.Preferences.{sorted_is-best_first}
@@ -56,21 +55,3 @@ module _ (all : List (Solvable ℕ)) where
         without ∙ sorted_is-best_first all list now same in_order,
         subst (IsSorted (preference all)) (sym without) in_order,
       )
-
--- the numbers tell only where the versions are the same
-pub of_one_version : (v w : Versioned) → v.version ≡ w.version →
-    nat_cmp v.solvable w.solvable ≡ versioned_preference v w
-of_one_version v w same =
-    sym (ap (λ o. ordering_then o (nat_cmp v.solvable w.solvable))
-    (ap (λ n. nat_cmp w.version n) same ∙ tied_itself nat_cmp_total w.version))
-
-of_two : (a b : Ordering) → (a ≡ Equal → ⊥) → a ≡ ordering_then a b
-of_two Less b h = refl
-of_two Equal b h = absurd (h refl)
-of_two Greater b h = refl
-
-pub of_two_versions : (v w : Versioned) → (v.version ≡ w.version → ⊥) →
-    nat_cmp w.version v.version ≡ versioned_preference v w
-of_two_versions v w other =
-    of_two (nat_cmp w.version v.version) (nat_cmp v.solvable w.solvable)
-    (λ e. other (sym (ranked w.version v.version Equal (sym e))))

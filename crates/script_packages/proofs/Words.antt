@@ -22,11 +22,10 @@ pub use Rattle.script_packages.specs.Listing.{are_sets, has_span, is_listed, lis
 pub use Rattle.script_packages.specs.Listing.{listing_of, name_number, named, nothing_listed, with_pool}
 pub use Rattle.script_packages.specs.Listing.{with_some_union, with_span_from, with_versions}
 pub use Rattle.script_packages.specs.Order.{best_first, insert_sorted, preference, rises, rises_from, sort_by}
-pub use Rattle.script_packages.specs.Order.{version_at, versioned_preference}
+pub use Rattle.script_packages.specs.Order.{version_at, Versioned, versioned_preference}
 pub use Rattle.script_packages.specs.OrderLaws.{sort_by_permutes}
 pub use Rattle.script_packages.specs.Packages.{is_within, numbers, same_id}
 pub use Rattle.script_packages.specs.Versions.{are_versions, each_is_version, favored_place, is_starred, version_of}
-pub use Rattle.script_packages.specs.declared.order.Versioned.{Versioned}
 pub use Rattle.script_packages.specs.declared.packages.Packages.{Packages}
 pub use Rattle.script_packages.specs.declared.packages.Span.{Span}
 pub use Rattle.script_packages.specs.declared.packages.VersionRange.{VersionRange}

@@ -1,9 +1,10 @@
 -- The order of preference.
-use Rattle.std.specs.Prelude.{ℕ, Bool, true, ◌&&◌, nat_lt, List, [], ◌∷◌, slice_get, Option, None, Some, if◌then◌else◌}
+use Rattle.std.proofs.Common.{arith}
+use Rattle.std.specs.Prelude.{◌≡◌, ◌<◌, ℕ, ◌+◌, ◌-◌, ◌*◌, ◌/◌, ◌%◌, ◌^◌, Bool, true, ◌&&◌, nat_lt, if◌then◌else◌}
+use Rattle.std.specs.Prelude.{List, [], ◌∷◌, slice_get, Option, None, Some}
 use Rattle.std.specs.declared.cmp.Ordering.{Ordering}
 use Rattle.std.specs.Ordering.{nat_cmp, ordering_then, is_lt}
 use Rattle.package_pool.specs.declared.solvable.Solvable.{Solvable}
-use Rattle.script_packages.specs.declared.order.Versioned.{Versioned}
 
 -- the version of a solvable, 0 where there is none
 abbrev pub version_or_zero : Option (Solvable ℕ) → ℕ
@@ -17,10 +18,26 @@ version_at all s = version_or_zero (slice_get all s)
 abbrev pub preference : List (Solvable ℕ) → ℕ → ℕ → Ordering
 preference all s t = ordering_then (nat_cmp (version_at all t) (version_at all s)) (nat_cmp s t)
 
--- a solvable with its version, and the same order of them
+-- a solvable with its version
+pub record Versioned : Type 0 where
+  pub version : ℕ
+  pub solvable : ℕ
+
+-- those of a rank, which is 2^32 times how far the version is below the largest one, and the solvable
+abbrev pub of_rank : ℕ → Versioned
+of_rank n = record { version = 2 ^ 32 - 1 - n / 2 ^ 32; solvable = n % 2 ^ 32 }
+
+-- the rank of these
+abbrev pub rank_of : Versioned → ℕ
+rank_of v = (2 ^ 32 - 1 - v.version) * 2 ^ 32 + v.solvable
+
+pub rank_comes_back : (n : ℕ) → n < 2 ^ 64 → rank_of (of_rank n) ≡ n
+rank_comes_back n low = omega (arith, low)
+
 abbrev pub with_version : List (Solvable ℕ) → ℕ → Versioned
 with_version all s = record { version = version_at all s; solvable = s }
 
+-- the same order of solvables with their versions
 abbrev pub versioned_preference : Versioned → Versioned → Ordering
 versioned_preference v w = ordering_then (nat_cmp w.version v.version) (nat_cmp v.solvable w.solvable)
 

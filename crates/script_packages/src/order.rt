@@ -7,6 +7,7 @@ use crate::packages::VersionRange;
 use package_pool::Pool;
 use std::alloc::{AllocError, Global};
 use std::cmp::Ordering;
+use std::marker::Model;
 use typed_ids::{DenseIndex, SolvableId};
 
 /// The version of a solvable; 0 where there is no such solvable.
@@ -34,11 +35,47 @@ const FEW: usize = 3;
 /// Up to this number of solvables are sorted with no memory of the heap.
 const SHORT: usize = 64;
 
-/// A solvable, with its version.
+/// A solvable with its version, in one number: 2^32 times how far its version is below the largest one, and its own
+/// number. So what stands first is less, and a sort compares numbers.
 #[derive(Clone, Copy)]
-struct Versioned {
-    version: u32,
-    solvable: SolvableId,
+struct Rank {
+    number: u64,
+}
+
+/// The solvable with its version.
+impl Model for Rank {
+    ghost use Rattle.std.specs.Prelude.{◌<◌, ◌^◌, ℕ};
+    ghost use Rattle.std.proofs.Common.{ap};
+    ghost use Rattle.script_packages.specs.Order.{Versioned, of_rank, rank_of, rank_comes_back};
+
+    ghost Value = { Versioned };
+
+    ghost view = { λ r. of_rank r.number };
+
+    ghost invariant = { λ r. r.number < 2 ^ 64 };
+
+    ghost inverse = { λ v. record { number = rank_of v } };
+
+    ghost inverse_ok = { λ r h. ap (λ (n : ℕ). record { number = n }) (rank_comes_back r.number h) };
+}
+
+impl Rank {
+    /// The rank of a solvable with this version.
+    fn new(version: u32, solvable: SolvableId) -> Rank
+        ensures { result ≡ record { version = version; solvable = solvable } }
+    {
+        let below = u64::from(u32::MAX - version);
+        Rank {
+            number: (below << 32) | solvable.to_index() as u64,
+        }
+    }
+
+    /// The solvable.
+    fn solvable(self) -> SolvableId
+        ensures { result ≡ self.solvable }
+    {
+        SolvableId::from_index((self.number % (1 << 32)) as usize)
+    }
 }
 
 /// Puts solvables in order, the best first. Mostly the lowest version is listed first, and then the list is turned
@@ -102,10 +139,7 @@ fn sort_short(pool: &Pool<VersionRange>, solvables: &mut [SolvableId])
     ensures order { solvables.new ≡ best_first pool.now.solvables solvables.old }
     ensures sorted { IsSorted (preference pool.now.solvables) solvables.new }
 {
-    let none = Versioned {
-        version: 0,
-        solvable: SolvableId::from_index(0),
-    };
+    let none = Rank { number: 0 };
     let mut places = [none; SHORT];
     let list = &mut places[..solvables.len()];
     look_up(pool, solvables, list);
@@ -114,7 +148,7 @@ fn sort_short(pool: &Pool<VersionRange>, solvables: &mut [SolvableId])
 }
 
 /// Puts solvables in a list, each with its version.
-fn look_up(pool: &Pool<VersionRange>, solvables: &[SolvableId], list: &mut [Versioned])
+fn look_up(pool: &Pool<VersionRange>, solvables: &[SolvableId], list: &mut [Rank])
     requires { length list.old ≡ length solvables.now }
     ensures { list.new ≡ map (with_version pool.now.solvables) solvables.now }
 {
@@ -124,13 +158,10 @@ fn look_up(pool: &Pool<VersionRange>, solvables: &[SolvableId], list: &mut [Vers
 }
 
 /// A solvable with its version.
-fn with_version(pool: &Pool<VersionRange>, solvable: SolvableId) -> Versioned
+fn with_version(pool: &Pool<VersionRange>, solvable: SolvableId) -> Rank
     ensures { result ≡ with_version pool.now.solvables solvable }
 {
-    Versioned {
-        version: version_at(pool, solvable),
-        solvable,
-    }
+    Rank::new(version_at(pool, solvable), solvable)
 }
 
 /// Puts solvables in order, and looks up each version once.
@@ -154,7 +185,7 @@ fn with_versions(
     alloc: Global,
     pool: &Pool<VersionRange>,
     solvables: &[SolvableId],
-) -> Result<Vec<Versioned>, AllocError>
+) -> Result<Vec<Rank>, AllocError>
     ensures { IfOk result (λ list. list.items ≡ map (with_version pool.now.solvables) solvables.now) }
 {
     let mut list = Vec::with_capacity(alloc, solvables.len())?;
@@ -165,31 +196,27 @@ fn with_versions(
 }
 
 /// Puts solvables with their versions in order, the best first.
-fn sort_versioned(list: &mut [Versioned])
+fn sort_versioned(list: &mut [Rank])
     ensures permutation { IsPermutation list.old list.new }
     ensures sorted { IsSorted versioned_preference list.new }
 {
     list.sort_unstable_by(|one, other| versioned_preference(one, other));
 }
 
-/// Which of two solvables stands first. The numbers are compared only where the versions are the same.
+/// Which of two solvables stands first.
 #[inline(always)]
-fn versioned_preference(one: &Versioned, other: &Versioned) -> Ordering
+fn versioned_preference(one: &Rank, other: &Rank) -> Ordering
     ensures { result ≡ versioned_preference one.now other.now }
 {
-    if one.version == other.version {
-        one.solvable.cmp(&other.solvable)
-    } else {
-        other.version.cmp(&one.version)
-    }
+    one.number.cmp(&other.number)
 }
 
 /// Puts the solvables of a list in the places of as many others.
-fn put(list: &[Versioned], solvables: &mut [SolvableId])
+fn put(list: &[Rank], solvables: &mut [SolvableId])
     requires { length list.now ≡ length solvables.old }
     ensures { solvables.new ≡ map (λ v. v.solvable) list.now }
 {
     for i in 0..solvables.len() {
-        solvables[i] = list[i].solvable;
+        solvables[i] = list[i].solvable();
     }
 }
