@@ -42,7 +42,7 @@ pub(crate) fn load_lists<D: DependencyProvider + Drop>(
     ensures queried { OnOk result
         (WasQueried (⟦<D as ProviderFunctions>⟧.functions cache.old.provider) requirement cache.new) }
 {
-    let ids = cache.cache_sorted_lists(requirement)?;
+    let ids = cache.best_lists(requirement)?;
     intern_lists(cache, ids, variables)
 }
 

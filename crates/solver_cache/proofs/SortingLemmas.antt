@@ -13,7 +13,7 @@ not_kept r es h = ap (λ t. is_cached t es) (sym (same_is r)) ∙ sym h
 module _ {D N S A H : Type 0} (has : H → S → Bool) where
   -- the candidates that a version set holds are found without a sorted list
   module _ (p : Provider N S) (may : MayAnswer N S A) where
-    asked_sorted : (n : N) (c d : Cache D N S A H) → IsQueried p may has c n d → d.sorted ≡ c.sorted
+    pub asked_sorted : (n : N) (c d : Cache D N S A H) → IsQueried p may has c n d → d.sorted ≡ c.sorted
     asked_sorted n c d h = by_kept (is_queried p c n) h
       where
         by_kept : (b : Bool) → IsOnce b c (λ new. (answer : Candidates S A) × IsAnswer p may n answer

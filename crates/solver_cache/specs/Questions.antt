@@ -82,10 +82,21 @@ module _ {D N S A H : Type 0} (p : Provider N S) (may : MayAnswer N S A) (has : 
         IsMatched v mid ×
         (new ≡ record mid { sorted = mid.sorted ++ (Single v, sorted p.universe p.answers p.same_solvable v) ∷ [] }))
 
+    -- the same, but no list of them in another order is kept
+    abbrev pub IsBest : VersionSetId → Cache D N S A H → Type 0
+    IsBest v = IsOnce (is_cached (same_requirement (Single v)) old.sorted) old (λ new. (mid : Cache D N S A H) ×
+        IsQueried (p.universe.set_name v) mid ×
+        (new ≡ record mid { sorted = mid.sorted ++ (Single v, sorted p.universe p.answers p.same_solvable v) ∷ [] }))
+
   -- after those of each version set were, one set after the other
   abbrev pub AreSorted : Cache D N S A H → List VersionSetId → Cache D N S A H → Type 0
   AreSorted old [] new = new ≡ old
   AreSorted old (v ∷ vs) new = (mid : Cache D N S A H) × IsSorted old v mid × AreSorted mid vs new
+
+  -- the same, but no list of them in another order is kept
+  abbrev pub AreBest : Cache D N S A H → List VersionSetId → Cache D N S A H → Type 0
+  AreBest old [] new = new ≡ old
+  AreBest old (v ∷ vs) new = (mid : Cache D N S A H) × IsBest old v mid × AreBest mid vs new
 
   -- after those of a requirement were
   abbrev pub IsRequirementSorted : Cache D N S A H → Requirement → Cache D N S A H → Type 0

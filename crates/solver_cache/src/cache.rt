@@ -2,6 +2,7 @@
 ghost use Rattle.std.specs.Prelude.{◌≡◌, false, []};
 
 mod answering;
+mod best;
 mod filtering;
 mod querying;
 mod reading;

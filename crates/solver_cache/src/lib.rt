@@ -12,10 +12,10 @@
 //! there may be, and `specs/CandidateLaws` what is true of the candidate lists of every provider.
 //!
 //! `cache` has the type, and in `cache/` are the questions. Those of `querying` are put to the provider, those of
-//! `filtering` and `sorting` are about version sets and requirements. Each answers an id, by which `reading` shows what
-//! is kept; `answering` does both in one call, and answers a reference. `candidates` asks the provider for a package's
-//! candidates, and `favored` puts the favored one first among others; `stored_lists` keeps lists by keys, and `hints`
-//! marks the solvables whose dependencies are at hand.
+//! `filtering`, `sorting` and `best` are about version sets and requirements. Each answers an id, by which `reading`
+//! shows what is kept; `answering` does both in one call, and answers a reference. `candidates` asks the provider for a
+//! package's candidates, and `favored` puts the favored one first among others; `stored_lists` keeps lists by keys, and
+//! `hints` marks the solvables whose dependencies are at hand.
 #![tactic(auto)]
 
 mod cache;

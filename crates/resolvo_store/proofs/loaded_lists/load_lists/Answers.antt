@@ -24,7 +24,7 @@ pub returns-clause-lists : goal.returns-clause-lists
 returns-clause-lists g c =
     let p = provided g c.args.cache.now.provider in
     subst (λ l. IfOk c.intern_lists.result (λ made. map (λ x. x.items) made.items ≡ l))
-    (listed_mapped p c.cache_sorted_lists.new.self c.in_ok-ids.ids.items (sets_of p.universe c.args.requirement)
+    (listed_mapped p c.best_lists.new.self c.in_ok-ids.ids.items (sets_of p.universe c.args.requirement)
     (map (interned_variable g.D.SolvableId.PartialEq.eq c.intern_lists.new.variables))
     c.in_ok-ids.ensures.answered.lists) c.intern_lists.ensures.lists
 
@@ -33,14 +33,14 @@ returns-clause-ok g c =
     let p = provided g c.args.cache.now.provider in
     subst (λ l. OnOk c.intern_lists.result (c.intern_lists.new.variables
     ≡ with_variables g.D.SolvableId.PartialEq.eq c.args.variables.now l))
-    (listed_joined p c.cache_sorted_lists.new.self c.in_ok-ids.ids.items
+    (listed_joined p c.best_lists.new.self c.in_ok-ids.ids.items
     (sets_of p.universe c.args.requirement) c.in_ok-ids.ensures.answered.lists) c.intern_lists.ensures.ok
 
 pub returns-clause-few : goal.returns-clause-few
 returns-clause-few g c =
     let p = provided g c.args.cache.now.provider in
     subst (λ l. OnOk c.intern_lists.result (length l < 2 ^ 40))
-    (listed_joined p c.cache_sorted_lists.new.self c.in_ok-ids.ids.items
+    (listed_joined p c.best_lists.new.self c.in_ok-ids.ids.items
     (sets_of p.universe c.args.requirement) c.in_ok-ids.ensures.answered.lists) c.intern_lists.ensures.few
 
 pub returns-clause-fit : goal.returns-clause-fit
@@ -49,7 +49,7 @@ returns-clause-fit g c =
     subst (λ l. OnOk c.intern_lists.result
     (lacks_variables g.D.SolvableId.PartialEq.eq g.D.SolvableId.Slots.IdMap.is_too_large c.args.variables.now l
     ≡ false))
-    (listed_joined p c.cache_sorted_lists.new.self c.in_ok-ids.ids.items
+    (listed_joined p c.best_lists.new.self c.in_ok-ids.ids.items
     (sets_of p.universe c.args.requirement) c.in_ok-ids.ensures.answered.lists) c.intern_lists.ensures.fit
 
 pub returns-clause-err : goal.returns-clause-err
@@ -57,14 +57,14 @@ returns-clause-err g c =
     let p = provided g c.args.cache.now.provider in
     subst (λ l. OnErr c.intern_lists.result
     (IsPartlyInterned g.D.SolvableId.PartialEq.eq c.args.variables.now l c.intern_lists.new.variables))
-    (listed_joined p c.cache_sorted_lists.new.self c.in_ok-ids.ids.items
+    (listed_joined p c.best_lists.new.self c.in_ok-ids.ids.items
     (sets_of p.universe c.args.requirement) c.in_ok-ids.ensures.answered.lists) c.intern_lists.ensures.err
 
 pub returns-clause-refused : goal.returns-clause-refused
 returns-clause-refused g c =
     let p = provided g c.args.cache.now.provider in
     let old = c.args.cache.now in
-    let new = c.cache_sorted_lists.new.self in
+    let new = c.best_lists.new.self in
     let sets = sets_of p.universe c.args.requirement in
     if_refused _ _ c.intern_lists.result
     (growth_refused (list_all (is_set_queried p old) sets) (list_any
