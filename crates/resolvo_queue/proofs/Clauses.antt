@@ -1,6 +1,7 @@
 -- How clauses come to a queue, and what its calls leave of them.
 pub mod ByName
 pub mod Callers
+pub mod Chained
 pub mod Counts
 pub mod Entries
 pub mod Firsts

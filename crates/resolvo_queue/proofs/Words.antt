@@ -21,7 +21,8 @@ pub use Rattle.resolvo_queue.specs.Parts.{HaveLists, HaveNumbers, heated, is_emp
 pub use Rattle.resolvo_queue.specs.Parts.{IsOfClause, IsPlaceOf, IsQueued, IsWoken, KeepsNumbers, known_at, known_of}
 pub use Rattle.resolvo_queue.specs.Parts.{list_in, LosesOnly, names_at, numbers_under, owed_of, OwesSame, Queued}
 pub use Rattle.resolvo_queue.specs.Parts.{Record, record_seen, rows_at, SameFound, set_of, updated_at, walk_of, walked}
-pub use Rattle.resolvo_queue.specs.Parts.{with_clause}
+pub use Rattle.resolvo_queue.specs.Parts.{AreWokenUnder, HasCondition, KeepsItems, with_clause}
+pub use Rattle.resolvo_queue.specs.Parts.UnderConditions.{AreChained, IsNewestBelow, newest_at, Renews}
 pub use Rattle.resolvo_queue.specs.Parts.Tracking.{BeginFirst, Gains, GainsClauses, HasNoClause, Heats, IsAsBefore}
 pub use Rattle.resolvo_queue.specs.Parts.Tracking.{IsFirstOf, IsInOrder, Registers, Tracking, tracking_of}
 pub use Rattle.resolvo_queue.specs.Pick.{beats, best_offer, better, decided, DecidesUnbeaten, eligible, is_of_root}
@@ -34,16 +35,17 @@ pub use Rattle.resolvo_queue.specs.Pick.Inspection.{offer_with}
 pub use Rattle.resolvo_queue.specs.Pick.Questions.{CanInspectAll, AreUpTo, clause_literals, CanInspect}
 pub use Rattle.resolvo_queue.specs.Pick.Ready.{AreLocated, at_position, behind, ColdHasNoScore, improved, IsDone}
 pub use Rattle.resolvo_queue.specs.Pick.Ready.{IsReady, offered, picked_behind, place_of, rest_picked, scanned}
-pub use Rattle.resolvo_queue.specs.Queue.{AgreesBelow, AreNamed, IsWellFormed, IsRegistered, IsSynced}
-pub use Rattle.resolvo_queue.specs.Queue.{OnlyHotScore, Queue}
-pub use Rattle.resolvo_queue.specs.Queue.{queue_of, StandsOn, values_of}
+pub use Rattle.resolvo_queue.specs.Queue.{AgreesBelow, AreNamed, IsWellFormed, IsRegistered, IsSynced, OnlyHotScore}
+pub use Rattle.resolvo_queue.specs.Queue.{Queue, queue_of, StandsOn, values_of}
 pub use Rattle.resolvo_queue.specs.References.{CanWalk, HasParts, IsWalkable, Lists, literals_in, References}
 pub use Rattle.resolvo_queue.specs.References.{references, score_in}
 pub use Rattle.resolvo_queue.specs.Routing.{AreUnknown, ForgetsAmong, OnlyForgets, Routes, Unrouted, variables_of}
-pub use Rattle.resolvo_queue.specs.Routing.{WakesForgotten, Ways, ways, ways_of}
+pub use Rattle.resolvo_queue.specs.Routing.{NotesConditions, WakesForgotten, Ways, ways, ways_of}
+pub use Rattle.resolvo_queue.specs.Routing.Noted.{AreFlagged, AreNoted, has_noted, is_noted, IsConditionOf}
+pub use Rattle.resolvo_queue.specs.Routing.Noted.{KeepsNoted, same_number}
 pub use Rattle.resolvo_queue.specs.Routing.Possible.{is_possible, Known, may_have_frontier, SameElsewhere}
 pub use Rattle.resolvo_queue.specs.Routing.Synced.{AllWokenFrom, counts, FindsAll, FindsConditions, is_among}
-pub use Rattle.resolvo_queue.specs.Routing.Synced.{KeepsQueued, ListsKnown, SyncsTo}
+pub use Rattle.resolvo_queue.specs.Routing.Synced.{KeepsQueued, ListsKnown, Settles, SyncsTo, WakesIfMet}
 pub use Rattle.resolvo_queue.specs.Rows.{all_false, candidates, frontier, frontier_at, has_true_row, is_undecided_row}
 pub use Rattle.resolvo_queue.specs.Rows.{list_rows, lists_loaded, lists_or_none, loaded_rows, Row, rows}
 pub use Rattle.resolvo_queue.specs.Rows.ByVariable.{items_in, list_at}

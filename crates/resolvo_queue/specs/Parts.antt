@@ -1,5 +1,6 @@
 -- What a queue keeps, part by part: names, numbers under names and in lists, what is queued, and records.
 pub mod Tracking
+pub mod UnderConditions
 use Rattle.resolvo_queue.specs.declared.requirements.Walk.TheVariants as Kind
 use Rattle.std.specs.Prelude.{◌≡◌, ◌≢◌, ℕ, Bool, false, List, [], All, Some, slice_get, slice_index_or, ◌⊎◌, ◌<◌, true}
 use Rattle.std.specs.Prelude.{length, Option, None, IfSome, if◌then◌else◌, zero, suc, ◌+◌, is_some, ◌∷◌, ◌++◌, ◌≤◌}
@@ -72,6 +73,14 @@ pub record GainsNumber (number : ℕ) (old new : List (List ℕ)) : Type 0 where
 abbrev pub FoundByAll : ℕ → List Lit → List (List ℕ) → Type 0
 FoundByAll number literals lists = (l : Lit) → Stands l literals → Stands number (list_at lists (variable_of l))
 
+-- nothing left any list
+abbrev pub KeepsItems : (old new : List (List ℕ)) → Type 0
+KeepsItems old new = (v n : ℕ) → Stands n (list_at old v) → Stands n (list_at new v)
+
+-- a clause has the condition
+abbrev pub HasCondition : List TrackedClause → ℕ → Type 0
+HasCondition clauses d = (n : ℕ) × (c : TrackedClause) × (slice_get clauses n ≡ Some c) × (c.condition ≡ Some d)
+
 -- ---- positions that are queued
 
 -- the positions of clauses that may be eligible, and those of the hot ones
@@ -119,6 +128,11 @@ module _ (clauses : List TrackedClause) where
   -- the numbered clauses with a true parent are queued
   abbrev pub AreWoken : Values → List ℕ → Queued → Type 0
   AreWoken val numbers q = (n : ℕ) (c : TrackedClause) → Stands n numbers → slice_get clauses n ≡ Some c →
+      known_true (val c.parent) ≡ true → IsQueued q c
+
+  -- the clauses under a condition with a true parent are queued
+  abbrev pub AreWokenUnder : Values → ℕ → Queued → Type 0
+  AreWokenUnder val d q = (n : ℕ) (c : TrackedClause) → slice_get clauses n ≡ Some c → c.condition ≡ Some d →
       known_true (val c.parent) ≡ true → IsQueued q c
 
   -- each clause's position has its number

@@ -104,16 +104,16 @@ abbrev pub OnlyHotScore : {N H : Type 0} → (H → N → Bool) → (N → ℕ) 
 OnlyHotScore {N} has scores q = (n : N) → has q.hot n ≡ false → scores n ≡ 0
 
 -- what the queue's clauses name is there, and as it was when they were registered: the variables of a condition find
--- the clause, the rows of listed requirements are listed, and unless the last sync was refused, all woken clauses that
--- may be eligible are queued, and what is known of rows is right
+-- it, the rows of listed requirements are listed, and unless the last sync was refused, all woken clauses that may be
+-- eligible are queued, but for those under noted conditions, and what is known of rows is right
 pub record StandsOn {N S A H : Type 0} (refs : References N S A) (q : Queue N H) : Type 0 where
   pub clauses : q.clauses ≡ map clause_of q.inside.clauses
   pub parts : All (HasParts refs) q.clauses
-  pub conditions : FindsConditions q.inside.clauses (clause_literals refs) q.inside.by_condition
+  pub conditions : FindsConditions q.inside.clauses (clause_literals refs) q.inside.conditions
   pub listed : IsListedWell refs.lists q.inside.occurrences q.inside.requirements
   pub synced : q.must_start_anew ≡ false →
       KeepsQueued q.inside.clauses (clause_literals refs) (rows_in refs) (values_of q.trail)
-      (counts (values_of q.trail) q.woken) q.inside.requirements q.inside.queued
+      (counts (values_of q.trail) q.woken q.inside.noted) q.inside.requirements q.inside.queued
 
 -- what stood, stands
 abbrev pub StandsStill : (S A : Type 0) → {N H : Type 0} → (old new : Queue N H) → Type 0

@@ -1,4 +1,5 @@
 -- What routing variables leaves: who is queued, and of which requirements nothing is known any more.
+pub mod Noted
 pub mod Possible
 pub mod Synced
 use Rattle.std.specs.Prelude.{◌≡◌, ℕ, ◌⊎◌, ◌++◌, true, List, Some, None, is_some, option_map, drop, map, slice_get}
@@ -8,6 +9,7 @@ use Rattle.resolvo_queue.specs.Occurrences.{Listed, listing}
 use Rattle.resolvo_queue.specs.Members.{Stands}
 use Rattle.resolvo_queue.specs.Parts.{Queued, GrowsBy, IsOfClause, AreWoken}
 use Rattle.resolvo_queue.specs.Parts.{Record, known_at, clauses_at, IsPlaceOf, forgotten}
+use Rattle.resolvo_queue.specs.Routing.Noted.{AreNoted}
 use Rattle.resolvo_queue.specs.declared.clause_index.ClauseIndex.{ClauseIndex}
 use Rattle.resolvo_queue.specs.declared.routing.Routing.{Routing}
 
@@ -35,7 +37,7 @@ Unrouted listing variables old now = (k : ℕ) (t : Record) → slice_get old k 
 pub record Ways : Type 0 where
   pub clauses : List TrackedClause
   pub by_parent : List (List ℕ)
-  pub by_condition : List (List ℕ)
+  pub conditions : List (List ℕ)
   pub requirements : ℕ → List Requirement
   pub val : Values
 
@@ -43,7 +45,7 @@ abbrev pub ways_of : {A : Type 0} → List TrackedClause → ClauseIndex A → L
 ways_of clauses index occurrences val = record {
   clauses = clauses;
   by_parent = index.by_parent;
-  by_condition = index.by_condition;
+  conditions = index.conditions;
   requirements = listing occurrences;
   val = val;
 }
@@ -62,11 +64,14 @@ module _ (w : Ways) where
     pub grows : GrowsBy (IsOfClause w.clauses) q q'
     pub only : OnlyForgets ts ts'
     pub parents : (v : ℕ) → Stands v variables → AreWoken w.clauses w.val (list_at w.by_parent v) q'
-    pub conditions : (v : ℕ) → Stands v variables → is_some (w.val v) ≡ true →
-        AreWoken w.clauses w.val (list_at w.by_condition v) q'
     pub unknown : (v : ℕ) → Stands v variables → AreUnknown (w.requirements v) ts'
     pub woken : WakesForgotten ts ts' q'
     pub others : Unrouted w.requirements variables ts ts'
+
+  -- the conditions are noted in which one of these variables stands that has a value
+  abbrev pub NotesConditions : List ℕ → List ℕ → Type 0
+  NotesConditions variables noted =
+      (v : ℕ) → Stands v variables → is_some (w.val v) ≡ true → AreNoted (list_at w.conditions v) noted
 
 -- the variables of decisions
 abbrev pub variables_of : List Decision → List ℕ

@@ -27,6 +27,7 @@ mod reading;
 use crate::clauses_by_name::ClausesByName;
 use crate::condition::condition_of;
 use crate::deciding::next_offer;
+use crate::due::wake_due;
 use crate::names::{NameLog, has_hot_name};
 use crate::offer::decision_of;
 use crate::questions::Question;
@@ -34,7 +35,6 @@ use crate::queue_decision::QueueDecision;
 use crate::requires_clause::RequiresClause;
 use crate::row_reader::RowReader;
 use crate::tracked_clauses::TrackedClauses;
-use crate::waking::wake_from;
 use clauses::Disjunction;
 use decisions::{Decision, DecisionMap};
 use id_maps::{IdSet, SolverId};
@@ -217,8 +217,8 @@ impl<D: DependencyProvider> DecideQueue<D> {
     /// below the floor; after a refused call the floor may be any.
     ///
     /// A refusal is remembered: no decision may be asked for until a later call is accepted. Linear in the decisions
-    /// from the floor on, in both trails, and in the clauses and requirements that have their variables; after a
-    /// refused call in all clauses.
+    /// from the floor on, in both trails, and in the parents' clauses, the conditions and the requirements that have
+    /// their variables; after a refused call in all clauses.
     pub fn sync(
         &mut self,
         floor: usize,
@@ -250,9 +250,9 @@ impl<D: DependencyProvider> DecideQueue<D> {
     /// clause which no other one beats. The scores are the packages', and the largest of them is handed in.
     ///
     /// A refusal leaves the clauses, the trail and the hot names as they were, and the reader its walks. Linear in the
-    /// clauses that came since the last call, in those that changed variables find, in the queued clauses that turn out
-    /// not to be eligible, which leave the queue, in the hot ones behind the first that is, and in the rows of their
-    /// requirements of which nothing was known.
+    /// clauses that came since the last call, in the literals of conditions in which variables changed, in the clauses
+    /// under those that are met, in the queued clauses that turn out not to be eligible, which leave the queue, in the
+    /// hot ones behind the first that is, and in the rows of their requirements of which nothing was known.
     pub fn next_decision<'q>(
         &mut self,
         map: &'q DecisionMap<D::Alloc>,
@@ -297,11 +297,12 @@ impl<D: DependencyProvider> DecideQueue<D> {
             largest,
             interner: provider,
         };
-        wake_from(
+        wake_due(
             &mut self.tracked.queued,
-            self.tracked.index.clauses.as_slice(),
+            &mut self.tracked.noted,
+            &self.tracked.index,
             self.woken,
-            map,
+            &question,
         )?;
         self.woken = self.tracked.index.clauses.len();
         decision_of(next_offer(&mut self.tracked, reader, &question))

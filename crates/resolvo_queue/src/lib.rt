@@ -7,7 +7,8 @@
 //!
 //! `decide_queue` has the queue, and `row_reader` the one way to the rows of requirements. `tracked_clauses` keeps the
 //! clauses, in the order of the scan by their `position`, and what may be eligible of them; `registering`, `heating`,
-//! `sync` and `deciding` are what is done with it. `clauses_by_name` finds clauses by the names of their packages.
+//! `sync`, `due` and `deciding` are what is done with it. `clauses_by_name` finds clauses by the names of their
+//! packages, and `noted_conditions` has the conditions that may be met since the last decision.
 //! `falsification` goes through all clauses for a falsified one. `questions`, `inspection`, `row_state` and `condition`
 //! look at one clause.
 #![tactic(auto)]
@@ -17,12 +18,14 @@ mod clauses_by_name;
 mod condition;
 mod decide_queue;
 mod deciding;
+mod due;
 mod falsification;
 mod group;
 mod heating;
 mod inspection;
 mod lists_by_variable;
 mod names;
+mod noted_conditions;
 mod offer;
 mod position_set;
 mod questions;

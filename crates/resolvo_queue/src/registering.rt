@@ -4,7 +4,7 @@ ghost use Rattle.typed_ids.specs.declared.error.StoreError.TheVariants.{OutOfMem
 ghost use Rattle.resolvo_queue.specs.Parts.Tracking.{IsAsBefore, IsInOrder, Registers, tracking_of};
 ghost use Rattle.resolvo_queue.specs.WalkCounts.{OwesFirst, owed_in};
 
-use crate::clause_index::add_to_conditions;
+use crate::clause_index::{enter_condition, renew_newest};
 use crate::requires_clause::RequiresClause;
 use crate::tracked_clause::TrackedClause;
 use crate::tracked_clauses::TrackedClauses;
@@ -34,7 +34,12 @@ impl<A: Allocator + Copy> TrackedClauses<A> {
     {
         let number = self.index.clauses.len() as u32;
         let place = self.requirements.enter_clause(clause.requirement, number)?;
-        add_to_conditions(&mut self.index.by_condition, literals, number)?;
+        let earlier = enter_condition(
+            &mut self.index.newest_under,
+            &mut self.index.conditions,
+            clause.condition,
+            literals,
+        )?;
         self.index.clauses.reserve(1)?;
         let tracked = TrackedClause {
             parent: clause.parent,
@@ -42,10 +47,12 @@ impl<A: Allocator + Copy> TrackedClauses<A> {
             record: place,
             condition: clause.condition,
             clause_id: clause.clause_id,
+            earlier,
             position: self.index.next_position(clause.parent),
             is_hot,
         };
         self.index.by_parent.push(clause.parent, number)?;
+        renew_newest(&mut self.index.newest_under, clause.condition, number + 1);
         self.index.clauses.push_reserved(tracked);
         Ok(())
     }

@@ -3,11 +3,13 @@ ghost use Rattle.std.specs.Prelude.{◌≡◌, [], ◌∷◌, true, is_some, OnO
 ghost use Rattle.resolvo_queue.specs.Types.{OutOfMemory, values_in};
 ghost use Rattle.resolvo_queue.specs.Occurrences.{listing};
 ghost use Rattle.resolvo_queue.specs.Rows.ByVariable.{list_at};
-ghost use Rattle.resolvo_queue.specs.Parts.{AreWoken, GrowsBy, HaveNumbers, IsOfClause};
+ghost use Rattle.resolvo_queue.specs.Parts.{GrowsBy, HaveNumbers, IsOfClause};
 ghost use Rattle.resolvo_queue.specs.Routing.{AreUnknown, ForgetsAmong, OnlyForgets, Routes, Unrouted, WakesForgotten};
-ghost use Rattle.resolvo_queue.specs.Routing.{variables_of, ways};
+ghost use Rattle.resolvo_queue.specs.Routing.{NotesConditions, variables_of, ways};
+ghost use Rattle.resolvo_queue.specs.Routing.Noted.{AreNoted, KeepsNoted};
 
 use crate::clause_index::ClauseIndex;
+use crate::noted_conditions::NotedConditions;
 use crate::queued_clauses::QueuedClauses;
 use crate::requirements::{Requirements, Walk};
 use crate::row_reader::Occurrences;
@@ -88,31 +90,33 @@ fn forget_all<A: Allocator + Copy>(
     Ok(())
 }
 
-/// Wakes the clauses in whose condition the variable stands, where it has a value: a condition is met only where each
-/// of its variables has one. So what is taken back wakes no clause by its condition.
-fn wake_by_condition<A: Allocator + Copy>(
-    queued: &mut QueuedClauses<A>,
+/// Notes the conditions in which the variable stands, if it has a value: a condition is met only if each of its
+/// variables has one. So a condition with many literals, or with many clauses, is looked at once for all that changed.
+fn note_conditions<A: Allocator + Copy>(
+    noted: &mut NotedConditions<A>,
     variable: VariableId,
     routing: &Routing<'_, A>,
 ) -> Result<(), StoreError>
-    requires { HaveNumbers routing.now.clauses.now }
-    ensures grows { GrowsBy (IsOfClause routing.now.clauses.now) queued.old queued.new }
-    ensures woken { OnOk result (is_some (values_in routing.now.map.now variable) ≡ true →
-        AreWoken routing.now.clauses.now (values_in routing.now.map.now)
-        (list_at routing.now.index.now.by_condition variable) queued.new) }
+    ensures kept { KeepsNoted noted.old noted.new }
+    ensures noted { OnOk result (is_some (values_in routing.now.map.now variable) ≡ true →
+        AreNoted (list_at routing.now.index.now.conditions variable) noted.new) }
     ensures memory { IfErr result (λ e. e ≡ OutOfMemory) }
 {
     if routing.map.value(variable).is_none() {
         return Ok(());
     }
-    let numbers = routing.index.by_condition.at(variable);
-    wake_clauses(queued, routing.clauses, numbers, routing.map)
+    let disjunctions = routing.index.conditions.at(variable);
+    for disjunction in disjunctions {
+        noted.note(*disjunction)?;
+    }
+    Ok(())
 }
 
-/// Routes one variable: wakes the clauses of which it is the parent or a variable of the condition, and forgets what is
-/// known of the requirements that have it in a row.
+/// Routes one variable: wakes the clauses of which it is the parent, notes the conditions in which it stands, and
+/// forgets what is known of the requirements that have it in a row.
 fn route<A: Allocator + Copy>(
     queued: &mut QueuedClauses<A>,
+    noted: &mut NotedConditions<A>,
     requirements: &mut Requirements<A>,
     variable: VariableId,
     routing: &Routing<'_, A>,
@@ -121,13 +125,15 @@ fn route<A: Allocator + Copy>(
     ensures grows { GrowsBy (IsOfClause routing.now.clauses.now) queued.old queued.new }
     ensures only { OnlyForgets requirements.old requirements.new }
     ensures others { Unrouted (listing routing.now.occurrences.now) (variable ∷ []) requirements.old requirements.new }
+    ensures kept { KeepsNoted noted.old noted.new }
     ensures ok { let variables = variable ∷ [] in
         OnOk result (Routes (ways routing.now) variables requirements.old requirements.new queued.old queued.new) }
+    ensures noted { OnOk result (NotesConditions (ways routing.now) (variable ∷ []) noted.new) }
     ensures memory { IfErr result (λ e. e ≡ OutOfMemory) }
 {
     let numbers = routing.index.by_parent.at(variable);
     wake_clauses(queued, routing.clauses, numbers, routing.map)?;
-    wake_by_condition(queued, variable, routing)?;
+    note_conditions(noted, variable, routing)?;
     let listed = routing.occurrences.listing(variable);
     forget_all(queued, requirements, listed, routing)
 }
@@ -135,6 +141,7 @@ fn route<A: Allocator + Copy>(
 /// Routes the variables of these decisions.
 pub(crate) fn route_all<A: Allocator + Copy>(
     queued: &mut QueuedClauses<A>,
+    noted: &mut NotedConditions<A>,
     requirements: &mut Requirements<A>,
     decisions: &[Decision],
     routing: &Routing<'_, A>,
@@ -144,12 +151,14 @@ pub(crate) fn route_all<A: Allocator + Copy>(
     ensures only { OnlyForgets requirements.old requirements.new }
     ensures others { let variables = variables_of decisions.now in
         Unrouted (listing routing.now.occurrences.now) variables requirements.old requirements.new }
+    ensures kept { KeepsNoted noted.old noted.new }
     ensures ok { let variables = variables_of decisions.now in
         OnOk result (Routes (ways routing.now) variables requirements.old requirements.new queued.old queued.new) }
+    ensures noted { OnOk result (NotesConditions (ways routing.now) (variables_of decisions.now) noted.new) }
     ensures memory { IfErr result (λ e. e ≡ OutOfMemory) }
 {
     for decision in decisions {
-        route(queued, requirements, decision.variable, routing)?;
+        route(queued, noted, requirements, decision.variable, routing)?;
     }
     Ok(())
 }

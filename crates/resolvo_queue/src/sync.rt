@@ -75,9 +75,21 @@ impl<A: Allocator + Copy> TrackedClauses<A> {
             map,
         };
         let before = &self.trail[floor..];
-        route_all(&mut self.queued, &mut self.requirements, before, &routing)?;
+        route_all(
+            &mut self.queued,
+            &mut self.noted,
+            &mut self.requirements,
+            before,
+            &routing,
+        )?;
         let now = &trail[floor..];
-        route_all(&mut self.queued, &mut self.requirements, now, &routing)?;
+        route_all(
+            &mut self.queued,
+            &mut self.noted,
+            &mut self.requirements,
+            now,
+            &routing,
+        )?;
         copy_behind(&mut self.trail, floor, trail)
     }
 

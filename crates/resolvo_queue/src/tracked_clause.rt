@@ -24,6 +24,8 @@ pub(crate) struct TrackedClause {
     pub(crate) record: usize,
     pub(crate) condition: Option<DisjunctionId>,
     pub(crate) clause_id: ClauseId,
+    /// One more than the number of the newest clause before it that has the same condition, 0 if there is none.
+    pub(crate) earlier: u32,
     pub(crate) position: Position,
     /// Whether a name of the requirement was ever marked hot. A clause that isn't hot has the score 0.
     pub(crate) is_hot: bool,

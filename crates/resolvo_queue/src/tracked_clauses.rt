@@ -4,6 +4,7 @@ ghost use Rattle.resolvo_queue.specs.Parts.{is_empty_queue};
 
 use crate::clause_index::ClauseIndex;
 use crate::lists_by_variable::ListsByVariable;
+use crate::noted_conditions::NotedConditions;
 use crate::queued_clauses::QueuedClauses;
 use crate::requirements::Requirements;
 use crate::row_reader::Occurrences;
@@ -15,6 +16,8 @@ use std::alloc::Allocator;
 pub(crate) struct TrackedClauses<A: Allocator + Copy> {
     pub(crate) index: ClauseIndex<A>,
     pub(crate) queued: QueuedClauses<A>,
+    /// The conditions whose clauses may be eligible and not be queued: a decision looks at them first.
+    pub(crate) noted: NotedConditions<A>,
     pub(crate) requirements: Requirements<A>,
     pub(crate) occurrences: Occurrences<A>,
     /// Whether a decision looks only at hot clauses behind the first eligible one.
@@ -30,6 +33,7 @@ impl<A: Allocator + Copy> TrackedClauses<A> {
     pub(crate) fn new(alloc: A) -> Self
         ensures clauses { result.index.clauses.items ≡ [] }
         ensures by_parent { result.index.by_parent ≡ [] }
+        ensures newest_under { result.index.newest_under.items ≡ [] }
         ensures trail { result.trail.items ≡ [] }
         ensures anew { result.must_start_anew ≡ false }
         ensures requirements { result.requirements ≡ [] }
@@ -41,9 +45,11 @@ impl<A: Allocator + Copy> TrackedClauses<A> {
             index: ClauseIndex {
                 clauses: Vec::new(alloc),
                 by_parent: ListsByVariable::new(alloc),
-                by_condition: ListsByVariable::new(alloc),
+                newest_under: Vec::new(alloc),
+                conditions: ListsByVariable::new(alloc),
             },
             queued: QueuedClauses::new(alloc),
+            noted: NotedConditions::new(alloc),
             requirements: Requirements::new(alloc),
             occurrences: Occurrences::new(alloc),
             only_hot: true,

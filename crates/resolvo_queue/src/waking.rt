@@ -2,9 +2,12 @@
 ghost use Rattle.std.specs.Prelude.{◌≡◌, ◌≤◌, true, length, OnOk, IfErr};
 ghost use Rattle.resolvo_queue.specs.Types.{known_true, OutOfMemory, values_in};
 ghost use Rattle.resolvo_queue.specs.Scan.Positions.{same_position};
-ghost use Rattle.resolvo_queue.specs.Parts.{AreWoken, IsQueued, IsWoken, GrowsBy, HaveNumbers, IsOfClause};
+ghost use Rattle.resolvo_queue.specs.Parts.{AreWoken, AreWokenUnder, IsQueued, IsWoken, GrowsBy, HaveNumbers};
+ghost use Rattle.resolvo_queue.specs.Parts.{IsOfClause};
+ghost use Rattle.resolvo_queue.specs.Parts.UnderConditions.{AreChained};
 ghost use Rattle.resolvo_queue.specs.Routing.Synced.{AllWokenFrom};
 
+use crate::clause_index::ClauseIndex;
 use crate::queued_clauses::QueuedClauses;
 use crate::tracked_clause::TrackedClause;
 use decisions::DecisionMap;
@@ -60,6 +63,28 @@ pub(crate) fn wake_clauses<A: Allocator + Copy>(
 {
     for number in numbers {
         wake_number(queued, clauses, *number, map)?;
+    }
+    Ok(())
+}
+
+/// Queues the clauses under a condition whose parents are true, the newest first.
+pub(crate) fn wake_under<A: Allocator + Copy>(
+    queued: &mut QueuedClauses<A>,
+    index: &ClauseIndex<A>,
+    disjunction: u32,
+    map: &DecisionMap<A>,
+) -> Result<(), StoreError>
+    requires numbers { HaveNumbers index.now.clauses.items }
+    requires chained { AreChained index.now.clauses.items index.now.newest_under.items }
+    ensures grows { GrowsBy (IsOfClause index.now.clauses.items) queued.old queued.new }
+    ensures woken { OnOk result (AreWokenUnder index.now.clauses.items (values_in map.now) disjunction queued.new) }
+    ensures memory { IfErr result (λ e. e ≡ OutOfMemory) }
+{
+    let mut next = index.newest(disjunction);
+    while next > 0 {
+        let number = next - 1;
+        wake_number(queued, index.clauses.as_slice(), number, map)?;
+        next = index.clauses[number as usize].earlier;
     }
     Ok(())
 }

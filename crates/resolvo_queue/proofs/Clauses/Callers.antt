@@ -68,12 +68,12 @@ stands_with_disjunction refs q d stands =
             (length-append refs.disjunctions (d ∷ [])) has.disjunction;
       }) q.clauses stands.parts;
       conditions = finds_same q.inside.clauses (clause_literals refs)
-          (clause_literals more) same q.inside.by_condition stands.conditions;
+          (clause_literals more) same q.inside.conditions stands.conditions;
       listed = stands.listed;
       synced = λ accepted. synced_same q.inside.clauses (clause_literals refs) (clause_literals more) same
-          (rows_in refs) (rows_in more) (values_of q.trail) (counts (values_of q.trail) q.woken)
-          (counts (values_of q.trail) q.woken) q.inside.requirements q.inside.requirements
-          (λ p. ⊥) q.inside.queued q.inside.queued (λ n c e. refl) (λ k. refl) (λ k h. refl)
+          (rows_in refs) (rows_in more) (values_of q.trail) (counts (values_of q.trail) q.woken q.inside.noted)
+          (counts (values_of q.trail) q.woken q.inside.noted) q.inside.requirements q.inside.requirements
+          (λ p. ⊥) q.inside.queued q.inside.queued (λ n c e h. h) (λ k. refl) (λ k h. refl)
           (grows_none (λ p. ⊥) q.inside.queued) (stands.synced accepted);
     }
 
@@ -139,9 +139,9 @@ stands_with_lists {N} {S} {A} refs q r lists none stands =
       conditions = stands.conditions;
       listed = listed_still refs.lists r lists none q.inside.occurrences q.inside.requirements stands.listed;
       synced = λ accepted. synced_same q.inside.clauses (clause_literals refs) (clause_literals more) (λ n c e. refl)
-          (rows_in refs) (rows_in more) (values_of q.trail) (counts (values_of q.trail) q.woken)
-          (counts (values_of q.trail) q.woken) q.inside.requirements q.inside.requirements
-          (λ p. ⊥) q.inside.queued q.inside.queued (λ n c e. refl) (λ k. refl) rows_same
+          (rows_in refs) (rows_in more) (values_of q.trail) (counts (values_of q.trail) q.woken q.inside.noted)
+          (counts (values_of q.trail) q.woken q.inside.noted) q.inside.requirements q.inside.requirements
+          (λ p. ⊥) q.inside.queued q.inside.queued (λ n c e h. h) (λ k. refl) rows_same
           (grows_none (λ p. ⊥) q.inside.queued) (stands.synced accepted);
     }
   where

@@ -4,10 +4,9 @@ use Rattle.std.proofs.Common.{Result, Ok, Err, sym, ap, refl, ◌∙◌, subst}
 use Rattle.std.specs.Prelude.{All}
 use Rattle.std.proofs.lemmas.List.{length-map}
 use Rattle.resolvo_queue.proofs.Words.{AreCold, clause_literals, clause_of, ColdLack, counts, has, HasParts, Heats}
-use Rattle.resolvo_queue.proofs.Words.{IdSpace, IsWellFormed, IsListedWell, IsUpdate, KeepsQueued, list_at}
-use Rattle.resolvo_queue.proofs.Words.{names_at, Queue}
-use Rattle.resolvo_queue.proofs.Words.{References, Stands, StandsOn, StoreError, TrackedClause, Values, values_of}
-use Rattle.resolvo_queue.proofs.Words.{variable_of}
+use Rattle.resolvo_queue.proofs.Words.{IdSpace, IsConditionOf, IsWellFormed, IsListedWell, IsUpdate, KeepsQueued}
+use Rattle.resolvo_queue.proofs.Words.{list_at, literals_in, names_at, Queue, References, Stands, StandsOn, StoreError}
+use Rattle.resolvo_queue.proofs.Words.{TrackedClause, Values, values_of, variable_of}
 use Rattle.resolvo_queue.specs.References.{rows_in}
 
 module _ {N H : Type 0} (has : H → N → Bool) (q q' : Queue N H) (heats : Heats q.inside q'.inside)
@@ -31,16 +30,19 @@ module _ {N H : Type 0} (has : H → N → Bool) (q q' : Queue N H) (heats : Hea
   stands_heated refs stands clauses trail anew = record {
     clauses = clauses ∙ (stands.clauses ∙ sym heats.clauses);
     parts = subst (All (HasParts refs)) (sym clauses) stands.parts;
-    conditions = λ n c e l s. (let was = heats.finds (clause_literals refs) (λ d. refl) n c e in
-        subst (λ lists. Stands n (list_at lists (variable_of l))) (sym heats.by_condition)
-        (stands.conditions n was.0 was.1 l (subst (Stands l) was.2 s)));
+    conditions = λ n c e l s. (let was = heats.finds n c e in
+        subst (λ lists. IsConditionOf (list_at lists (variable_of l)) c.condition) (sym heats.conditions)
+        (subst (IsConditionOf (list_at q.inside.conditions (variable_of l))) (sym was.2)
+        (stands.conditions n was.0 was.1 l (subst (λ o. Stands l (literals_in refs o)) was.2 s))));
     listed = subst (λ o. IsListedWell refs.lists o q'.inside.requirements) (sym heats.occurrences)
         (subst (IsListedWell refs.lists q.inside.occurrences) (sym heats.requirements) stands.listed);
     synced = λ accepted.
-        subst (λ (x : Values × ℕ). KeepsQueued q'.inside.clauses (clause_literals refs) (rows_in refs) x.0
-        (counts x.0 x.1) q'.inside.requirements q'.inside.queued) (λ i. (ap values_of (sym trail) i, sym woken i))
+        subst (λ (x : Values × ℕ × List ℕ). KeepsQueued q'.inside.clauses (clause_literals refs) (rows_in refs) x.0
+        (counts x.0 x.1 x.2) q'.inside.requirements q'.inside.queued)
+        (λ i. (ap values_of (sym trail) i, sym woken i, sym heats.noted i))
         (heats.synced (clause_literals refs) (rows_in refs) (values_of q.trail)
-        (counts (values_of q.trail) q.woken) (λ d. refl) (λ d. refl) (stands.synced (sym anew ∙ accepted)));
+        (counts (values_of q.trail) q.woken q.inside.noted) (λ d. refl) (λ d. refl)
+        (stands.synced (sym anew ∙ accepted)));
   }
 
 -- names of clauses that aren't hot stay cold where one more name is hot that they lack

@@ -1,10 +1,11 @@
 -- The queue without clauses.
-use Rattle.std.proofs.Common.{◌≡◌, ℕ, ◌<◌, ◌≤◌, ◌^◌, Bool, IfSome, true, false, List, [], map, length}
+use Rattle.std.proofs.Common.{◌≡◌, ℕ, ◌+◌, ◌<◌, ◌≤◌, ◌^◌, Bool, IfSome, true, false, List, [], map, length}
 use Rattle.std.proofs.Common.{Option, None, Some, MatchOption, slice_get, sym, ap, ◌∙◌, subst, arith}
 use Rattle.std.specs.Prelude.{All, Contains}
 use Rattle.std.proofs.lemmas.List.Elements.{All-nil}
 use Rattle.resolvo_queue.proofs.Words.{clause_of, frontier, has, HasNoClause, HasParts, is_empty_queue, IsFirstOf}
-use Rattle.resolvo_queue.proofs.Words.{IsInOrder, IsWellFormed, known_at, list_any, list_at, Queue, Record, References}
+use Rattle.resolvo_queue.proofs.Words.{IsInOrder, IsWellFormed, known_at, list_any, list_at, newest_at, Queue, Record}
+use Rattle.resolvo_queue.proofs.Words.{References}
 use Rattle.resolvo_queue.proofs.Words.{rows_at, same_requirement, StandsOn, TrackedClause, Tracking, values_of}
 use Rattle.resolvo_queue.specs.References.{rows_in}
 use Rattle.resolvo_queue.proofs.Lists.{stands_if_contains}
@@ -16,13 +17,27 @@ no_clause cs P none n c e = let bad : None ≡ Some c = ap (λ l. slice_get l n)
 differ : (P : Type 0) → false ≡ true → P
 differ P d = cc
 
-order_new : (t : Tracking) → t.clauses ≡ [] → t.by_parent ≡ [] → is_empty_queue t.queued → IsInOrder t
-order_new t none lists empty = record {
+-- no condition has one
+no_newest : {P : Type 0} (newest : List ℕ) → newest ≡ [] → (d k : ℕ) → newest_at newest d ≡ k + 1 → P
+no_newest newest none d k e = let bad : 0 ≡ k + 1 = ap (λ l. newest_at l d) (sym none) ∙ e in absurd
+    (omega (arith, bad))
+
+order_new : (t : Tracking) → t.clauses ≡ [] → t.by_parent ≡ [] → t.newest_under ≡ [] → is_empty_queue t.queued →
+    IsInOrder t
+order_new t none lists newest empty = record {
   few = subst (λ cs. length cs < 2 ^ 32) (sym none) (omega arith);
   located = λ n c e. no_clause t.clauses _ none n c e;
   first = λ parent. subst (λ l. MatchOption (slice_get (list_at l parent) 0) (HasNoClause t.clauses parent)
       (IsFirstOf t.clauses parent)) (sym lists) (λ n c e. no_clause t.clauses _ none n c e);
   parents = λ n c e. no_clause t.clauses _ none n c e;
+  chained = record {
+    last = λ d. record {
+      below = λ n c e. no_clause t.clauses _ none n c e;
+      within = λ k e. no_newest t.newest_under newest d k e;
+      own = λ k e c at. no_clause t.clauses _ none k c at;
+    };
+    earlier = λ n c e. no_clause t.clauses _ none n c e;
+  };
   requirements = λ n c e. no_clause t.clauses _ none n c e;
   placed = λ n c e. no_clause t.clauses _ none n c e;
   all_of = λ p e. differ _ (sym (empty p).0 ∙ e);
@@ -30,9 +45,9 @@ order_new t none lists empty = record {
 }
 
 pub kept_new : {N H : Type 0} (has : H → N → Bool) (q : Queue N H) → q.inside.clauses ≡ [] → q.inside.by_parent ≡ [] →
-    is_empty_queue q.inside.queued → q.names ≡ [] → q.woken ≡ 0 → IsWellFormed has q
-kept_new has q none lists empty names woken = record {
-  order = order_new q.inside none lists empty;
+    q.inside.newest_under ≡ [] → is_empty_queue q.inside.queued → q.names ≡ [] → q.woken ≡ 0 → IsWellFormed has q
+kept_new has q none lists newest empty names woken = record {
+  order = order_new q.inside none lists newest empty;
   names = ap length names ∙ ap length (sym none);
   woken = subst (λ k. k ≤ length q.inside.clauses) (sym woken) (omega arith);
   cold = λ n c e cool. no_clause q.inside.clauses _ none n c e;

@@ -2,10 +2,13 @@
 use Rattle.std.proofs.Common.{◌≡◌, ◌≢◌, ℕ, ◌+◌, ◌<◌, ◌-◌, ◌^◌, Bool, true, false, eqb, eqb-true, eq-eqb}
 use Rattle.std.proofs.Common.{inl, inr, List, [], ◌∷◌, ◌++◌, length, Option, Some, None, MatchOption}
 use Rattle.std.proofs.Common.{slice_get, sym, ap, ap₂, refl, ◌∙◌, subst, arith, length-append}
-use Rattle.resolvo_queue.proofs.Words.{AreLocated, at_position, BeginFirst, clauses_at, first_from, GainsNumber, has}
-use Rattle.resolvo_queue.proofs.Words.{HasNoClause, IsAsBefore, IsFirstOf, IsInOrder, IsOfClause, IsPlaceOf, IsUpdate}
-use Rattle.resolvo_queue.proofs.Words.{list_at, Lit, Position, position_in, Queued, Registers, RequiresClause, Stands}
-use Rattle.resolvo_queue.proofs.Words.{TrackedClause, Tracking}
+use Rattle.std.specs.Prelude.{IfSome}
+use Rattle.resolvo_queue.proofs.Words.{AreChained, AreLocated, at_position, BeginFirst, clauses_at, first_from}
+use Rattle.resolvo_queue.proofs.Words.{GainsNumber, has}
+use Rattle.resolvo_queue.proofs.Words.{HasNoClause, IsAsBefore, IsFirstOf, IsInOrder, IsOfClause, IsPlaceOf}
+use Rattle.resolvo_queue.proofs.Words.{IsUpdate, list_at, Lit, Position, position_in, Queued, Registers, RequiresClause}
+use Rattle.resolvo_queue.proofs.Words.{newest_at, Renews, Stands, TrackedClause, Tracking}
+use Rattle.resolvo_queue.proofs.Clauses.Chained.{chained_more, chained_same}
 use Rattle.resolvo_queue.proofs.Clauses.Entries.{earlier_or_last, last_is, stays_at}
 use Rattle.resolvo_queue.proofs.Syncs.NewClause.{located_more, own_position, parent_of}
 use Rattle.resolvo_queue.proofs.Clauses.Numbers.{gains_each, updated_each}
@@ -97,6 +100,10 @@ registers_in_order clause is_hot literals old now room o r = record {
   parents = each_more old.clauses now.clauses r.new r.clauses (λ n c. Stands n (list_at now.by_parent c.parent))
       (λ n c e. found.kept c.parent n (o.parents n c e)) (subst (Stands (length old.clauses)) (sym update.0)
       (stands_last (list_at old.by_parent r.new.parent) (length old.clauses)));
+  chained = chained_more old.clauses now.clauses r.new r.clauses old.newest_under now.newest_under o.chained
+      (subst (λ o. Renews o (length old.clauses + 1) old.newest_under now.newest_under) (sym condition)
+      r.newest_under) (subst (λ o. IfSome o (λ d. r.new.earlier ≡ newest_at old.newest_under d)) (sym condition)
+      r.earlier);
   requirements = each_more old.clauses now.clauses r.new r.clauses (λ n c.
       Stands n (clauses_at now.requirements c.record))
       (λ n c e. r.gains.records.clauses c.record n (o.requirements n c e)) r.requirements;
@@ -108,6 +115,9 @@ registers_in_order clause is_hot literals old now room o r = record {
       (o.hot_of p (subst (λ (q : Queued). has q.hot p ≡ true) r.gains.queued h));
 }
   where
+    condition : r.new.condition ≡ clause.condition
+    condition = ap (λ (c : RequiresClause). c.condition) r.is
+
     few : length (old.clauses ++ r.new ∷ []) < 2 ^ 32
     few = omega (arith, length-append old.clauses (r.new ∷ []))
 
@@ -135,6 +145,8 @@ refused_in_order old now o b = record {
       (sym b.clauses) (subst (λ l. MatchOption (slice_get l 0) (HasNoClause old.clauses x) (IsFirstOf old.clauses x))
       (sym (b.by_parent x)) (o.first x));
   parents = λ n c e. subst (Stands n) (sym (b.by_parent c.parent)) (o.parents n c (was n c e));
+  chained = subst (λ cs. AreChained cs now.newest_under) (sym b.clauses)
+      (chained_same old.clauses old.newest_under now.newest_under b.newest_under o.chained);
   requirements = λ n c e. b.gains.records.clauses c.record n (o.requirements n c (was n c e));
   placed = λ n c e. b.gains.records.places c.requirement c.record (o.placed n c (was n c e));
   all_of = λ p h. still p (o.all_of p (subst (λ (q : Queued). has q.all p ≡ true) b.gains.queued h));

@@ -1,16 +1,16 @@
 -- A queue after a registration, accepted or refused, and after clauses became hot.
-use Rattle.std.proofs.Common.{◌≡◌, ℕ, zero, suc, ◌+◌, ◌-◌, ◌<◌, ◌^◌, ltb, Bool, true, false}
-use Rattle.std.proofs.Common.{◌||◌, ◌⊎◌, inl, inr, List, [], ◌∷◌, ◌++◌, map, length, Some}
-use Rattle.std.proofs.Common.{slice_get, sym, ap, refl, ◌∙◌, subst, arith, length-append}
-use Rattle.std.specs.Prelude.{All, IsTrue, ◌↔◌, ◌≤◌}
-use Rattle.std.proofs.lemmas.Bool.{ltb-false, ltb-true}
+use Rattle.std.proofs.Common.{◌≡◌, ℕ, zero, suc, ◌+◌, ◌-◌, ◌<◌, ◌^◌, Bool, true, false, ◌||◌, ◌⊎◌, inl, inr, List}
+use Rattle.std.proofs.Common.{[], ◌∷◌, ◌++◌, map, length, Option, None, Some, slice_get, sym, ap, refl, ◌∙◌, subst}
+use Rattle.std.proofs.Common.{arith, length-append}
+use Rattle.std.specs.Prelude.{All, IfSome, IsTrue, ◌↔◌, ◌≤◌}
 use Rattle.std.proofs.lemmas.List.{map-append}
 use Rattle.std.proofs.lemmas.List.Elements.{All-cons, All-nil, All-push, All-weaker}
 use Rattle.std.proofs.lemmas.Option.{slice_get_within}
 use Rattle.resolvo_queue.proofs.Words.{AreCold, clause_literals, clause_of, counts, HasParts, IsAsBefore, IsWellFormed}
 use Rattle.resolvo_queue.proofs.Words.{KeepsQueued, list_any, list_at, Lit, literals_in, names_at, Position, Queue}
 use Rattle.resolvo_queue.proofs.Words.{Queued, References, Registers, RequiresClause, SameValues, Stands, StandsOn}
-use Rattle.resolvo_queue.proofs.Words.{TrackedClause, Tracking, Values, values_of, variable_of}
+use Rattle.resolvo_queue.proofs.Words.{FoundByAll, HasCondition, IsConditionOf, KeepsItems, TrackedClause, Tracking}
+use Rattle.resolvo_queue.proofs.Words.{Values, values_of, variable_of}
 use Rattle.resolvo_queue.specs.References.{rows_in}
 use Rattle.resolvo_queue.proofs.Clauses.Counts.{counts_new}
 use Rattle.resolvo_queue.proofs.Clauses.Entries.{earlier_or_last}
@@ -41,6 +41,14 @@ none_hot hot (x ∷ xs) h = go (hot x) refl h (none_hot hot xs)
         (list_any hot xs ≡ false → All (λ m. hot m ≡ false) xs) → All (λ m. hot m ≡ false) (x ∷ xs)
     go true e f more = cc
     go false e f more = All-cons (λ m. hot m ≡ false) x xs e (more f)
+
+-- ---- a condition
+
+-- found by a variable, it still is
+condition_stays : (old now : List (List ℕ)) → KeepsItems old now → (v : ℕ) (o : Option ℕ) →
+    IsConditionOf (list_at old v) o → IsConditionOf (list_at now v) o
+condition_stays old now kept v None of = of
+condition_stays old now kept v (Some d) of = kept v d of
 
 -- ---- a clause that is registered
 
@@ -113,15 +121,30 @@ module _ {N H : Type 0} (has : H → N → Bool) (q q' : Queue N H) (clause : Re
       synced = λ accepted. again (stands.synced (sym anew ∙ accepted));
     }
       where
+        -- its condition is found by each of its variables, since it came to them, or an earlier clause has it
+        new_found : (l : Lit) (o : Option ℕ) → clause.condition ≡ o → Stands l (literals_in refs o) →
+            IsConditionOf (list_at q'.inside.conditions (variable_of l)) o
+        new_found l None is s = elim s [ ]
+        new_found l (Some d) is s = elim (subst (λ o. IfSome o (λ i.
+            FoundByAll i literals q'.inside.conditions ⊎ HasCondition cs i)) is registers.conditions) [
+              | inl found ↦ found l (subst (Stands l) (sym (condition ∙ ap (literals_in refs) is)) s)
+              | inr had ↦
+                  let of = stands.conditions had.0 had.1 had.2 l
+                  (subst (λ o. Stands l (literals_in refs o)) (sym had.3) s) in
+                  registers.gains.conditions (variable_of l) d
+                  (subst (IsConditionOf (list_at q.inside.conditions (variable_of l))) had.3 of)
+            ]
+
         find : (n : ℕ) (c : TrackedClause) (l : Lit) → Stands l (clause_literals refs c) →
             ((slice_get cs n ≡ Some c) ⊎ ((c ≡ new) × (n ≡ length cs))) →
-            Stands n (list_at q'.inside.by_condition (variable_of l))
-        find n c l s (inl was) = registers.gains.conditions (variable_of l) n (stands.conditions n c was l s)
+            IsConditionOf (list_at q'.inside.conditions (variable_of l)) c.condition
+        find n c l s (inl was) = condition_stays q.inside.conditions q'.inside.conditions registers.gains.conditions
+            (variable_of l) c.condition (stands.conditions n c was l s)
         find n c l s (inr own) =
-            let same : clause_literals refs c ≡ literals = ap (clause_literals refs) own.0 ∙
-            (ap (λ (d : RequiresClause). literals_in refs d.condition) registers.is ∙ sym condition) in
-            subst (λ k. Stands k (list_at q'.inside.by_condition (variable_of l))) (sym own.1)
-            (registers.conditions l (subst (Stands l) same s))
+            let is : c.condition ≡ clause.condition = ap (λ (x : TrackedClause). x.condition) own.0 ∙
+            ap (λ (x : RequiresClause). x.condition) registers.is in
+            subst (IsConditionOf (list_at q'.inside.conditions (variable_of l))) (sym is)
+            (new_found l clause.condition refl (subst (λ o. Stands l (literals_in refs o)) is s))
 
         val : Values
         val = values_of q.trail
@@ -130,18 +153,18 @@ module _ {N H : Type 0} (has : H → N → Bool) (q q' : Queue N H) (clause : Re
         own = ap (λ (p : Position). p.number) registers.position
 
         again : KeepsQueued cs (clause_literals refs) (rows_in refs) val
-            (counts val q.woken) q.inside.requirements q.inside.queued →
+            (counts val q.woken q.inside.noted) q.inside.requirements q.inside.queued →
             KeepsQueued q'.inside.clauses (clause_literals refs) (rows_in refs) (values_of q'.trail)
-            (counts (values_of q'.trail) q'.woken) q'.inside.requirements q'.inside.queued
+            (counts (values_of q'.trail) q'.woken q'.inside.noted) q'.inside.requirements q'.inside.queued
         again old =
-            subst (λ (x : (Values × ℕ) × (List TrackedClause × Queued)). KeepsQueued x.1.0 (clause_literals refs)
-            (rows_in refs) x.0.0 (counts x.0.0 x.0.1) q'.inside.requirements x.1.1) (λ i. (
-              (ap values_of (sym trail) i, sym woken i),
+            subst (λ (x : (Values × ℕ × List ℕ) × (List TrackedClause × Queued)). KeepsQueued x.1.0
+            (clause_literals refs) (rows_in refs) x.0.0 (counts x.0.0 x.0.1 x.0.2) q'.inside.requirements x.1.1) (λ i. (
+              (ap values_of (sym trail) i, sym woken i, sym registers.gains.noted i),
               (sym registers.clauses i, sym registers.gains.queued i),
-            )) (registered_synced cs (clause_literals refs) (rows_in refs) val (counts val q.woken)
+            )) (registered_synced cs (clause_literals refs) (rows_in refs) val (counts val q.woken q.inside.noted)
             q.inside.requirements q'.inside.requirements q.inside.queued new registers.gains.records.known
             (rows_stay (rows_in refs) q.inside.requirements q'.inside.requirements registers.gains.records)
-            (counts_new val q.woken cs new own kept.woken) old)
+            (counts_new val q.woken q.inside.noted cs new own kept.woken) old)
 
 -- ---- a registration that is refused
 
@@ -163,7 +186,8 @@ module _ {N H : Type 0} (has : H → N → Bool) (q q' : Queue N H) (before : Is
   stands_refused refs stands clauses trail anew = record {
     clauses = clauses ∙ (stands.clauses ∙ ap (map clause_of) (sym before.clauses));
     parts = subst (All (HasParts refs)) (sym clauses) stands.parts;
-    conditions = λ n c e l s. before.gains.conditions (variable_of l) n
+    conditions = λ n c e l s. condition_stays q.inside.conditions q'.inside.conditions before.gains.conditions
+        (variable_of l) c.condition
         (stands.conditions n c (subst (λ xs. slice_get xs n ≡ Some c) before.clauses e) l s);
     listed = listed_gained refs.lists q.inside q'.inside before.gains stands.listed;
     synced = λ accepted. again (stands.synced (sym anew ∙ accepted));
@@ -173,14 +197,17 @@ module _ {N H : Type 0} (has : H → N → Bool) (q q' : Queue N H) (before : Is
       val = values_of q.trail
 
       again : KeepsQueued q.inside.clauses (clause_literals refs) (rows_in refs) val
-          (counts val q.woken) q.inside.requirements q.inside.queued →
+          (counts val q.woken q.inside.noted) q.inside.requirements q.inside.queued →
           KeepsQueued q'.inside.clauses (clause_literals refs) (rows_in refs) (values_of q'.trail)
-          (counts (values_of q'.trail) q'.woken) q'.inside.requirements q'.inside.queued
-      again old = subst (λ (x : (Values × ℕ) × (List TrackedClause × Queued)). KeepsQueued x.1.0 (clause_literals refs)
-          (rows_in refs) x.0.0 (counts x.0.0 x.0.1) q'.inside.requirements x.1.1)
-          (λ i. ((ap values_of (sym trail) i, sym woken i), (sym before.clauses i, sym before.gains.queued i)))
+          (counts (values_of q'.trail) q'.woken q'.inside.noted) q'.inside.requirements q'.inside.queued
+      again old = subst (λ (x : (Values × ℕ × List ℕ) × (List TrackedClause × Queued)). KeepsQueued x.1.0
+          (clause_literals refs) (rows_in refs) x.0.0 (counts x.0.0 x.0.1 x.0.2) q'.inside.requirements x.1.1) (λ i. (
+            (ap values_of (sym trail) i, sym woken i, sym before.gains.noted i),
+            (sym before.clauses i, sym before.gains.queued i),
+          ))
           (synced_same q.inside.clauses (clause_literals refs) (clause_literals refs) (λ n c e. refl) (rows_in refs)
-          (rows_in refs) val (counts val q.woken) (counts val q.woken) q.inside.requirements
-          q'.inside.requirements (λ p. ⊥) q.inside.queued q.inside.queued (λ n c e. refl) before.gains.records.known
+          (rows_in refs) val (counts val q.woken q.inside.noted) (counts val q.woken q.inside.noted)
+          q.inside.requirements q'.inside.requirements (λ p. ⊥) q.inside.queued q.inside.queued
+          (λ n c e h. h) before.gains.records.known
           (rows_stay (rows_in refs) q.inside.requirements q'.inside.requirements before.gains.records)
           (grows_none (λ p. ⊥) q.inside.queued) old)

@@ -1,5 +1,5 @@
 -- Of the clauses that pass a test, the one with the least position is the first of the scan.
-use Rattle.std.proofs.Common.{◌≡◌, ℕ, zero, suc, Bool, true, false, cond, eqb, eq-eqb, List, [], ◌∷◌, ◌++◌, map}
+use Rattle.std.proofs.Common.{◌≡◌, ℕ, suc, Bool, true, false, cond, eqb, eq-eqb, List, [], ◌∷◌, ◌++◌, map}
 use Rattle.std.proofs.Common.{find, length, Some, None, option_map, slice_get, sym, ap, refl, ◌∙◌, is_gt}
 use Rattle.std.specs.List.Sorted.{IsStrictlySortedBy}
 use Rattle.resolvo_queue.proofs.Words.{at_position, Equal, first_from, Greater, here, is_after, is_lt}
@@ -7,7 +7,7 @@ use Rattle.resolvo_queue.proofs.Words.{Less, numbered_scan, Ordering, ordering_r
 use Rattle.resolvo_queue.proofs.Words.{position_at, position_cmp, position_in, RequiresClause, scan, Stands, there}
 use Rattle.resolvo_queue.proofs.Syncs.Queued.{position_order}
 use Rattle.resolvo_queue.proofs.Picks.NumberedScan.{at_scanned, first_kept, scan_ascends, scan_is, scanned_at}
-use Rattle.resolvo_queue.proofs.Lists.{no_or_yes, same_some}
+use Rattle.resolvo_queue.proofs.Lists.{no_or_yes}
 use Rattle.resolvo_queue.proofs.Picks.Behind.{Ascends, below_all}
 
 -- ---- positions

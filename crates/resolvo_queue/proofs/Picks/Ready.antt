@@ -1,7 +1,7 @@
 -- What a question does to a queue that is ready, and what is queued tells of the offers.
-use Rattle.std.proofs.Common.{◌≡◌, ◌≢◌, ℕ, zero, suc, ◌<◌, Bool, true, false, ◌&&◌, cond, ◌⊎◌, inl, inr}
-use Rattle.std.proofs.Common.{List, [], ◌∷◌, length, get_or, Option, Some, None, IfSome, MatchOption}
-use Rattle.std.proofs.Common.{is_some, option_map, slice_get, sym, ap, refl, ◌∙◌, subst, arith}
+use Rattle.std.proofs.Common.{◌≡◌, ◌≢◌, ℕ, Bool, true, false, ◌&&◌, cond, inl, inr}
+use Rattle.std.proofs.Common.{List, get_or, Option, Some, None, IfSome, MatchOption}
+use Rattle.std.proofs.Common.{is_some, option_map, slice_get, sym, ap, refl, ◌∙◌, subst}
 use Rattle.std.proofs.lemmas.Option.{slice_get_within}
 use Rattle.resolvo_queue.proofs.Words.{are_literals_false, AreLocated, beats, eligible_frontier, Frontier, frontier}
 use Rattle.resolvo_queue.proofs.Words.{has, IsOfClause, IsPlaceOf, IsReady, Known, known_at, known_true, Learns, Lit}

@@ -93,6 +93,7 @@ module _ {N S A : Type 0} {refs : References N S A} {val : Values} {t : TrackedC
     pub looked_asked : CanDecide refs val (record {
       index = t.index;
       queued = t.queued;
+      noted = t.noted;
       requirements = ts;
       occurrences = o;
       only_hot = t.only_hot;
@@ -112,6 +113,7 @@ module _ {N S A : Type 0} {refs : References N S A} {val : Values} {t : TrackedC
         CanDecide refs val (record {
           index = t.index;
           queued = q;
+          noted = t.noted;
           requirements = ts;
           occurrences = o;
           only_hot = t.only_hot;

@@ -6,10 +6,11 @@ use Rattle.std.proofs.Common.{slice_get, Result, Ok, Err, OnOk, sym, ap, refl, �
 use Rattle.std.proofs.Math.Seq.{drop-length}
 use Rattle.std.proofs.lemmas.List.{take_more, map-append}
 use Rattle.std.proofs.lemmas.Option.{slice_get_within}
-use Rattle.resolvo_queue.proofs.Words.{AreUnknown, AreWoken, clauses_at, clauses_in, Decision, ForgetsAmong, forgotten}
-use Rattle.resolvo_queue.proofs.Words.{Frontier, GrowsBy, HasNoPlace, here, IsOfClause, IsPlaceOf, Known, known_at}
-use Rattle.resolvo_queue.proofs.Words.{list_at, OnlyForgets, Queued, Record, Requirement, Routes, same_requirement}
-use Rattle.resolvo_queue.proofs.Words.{Stands, there, Unrouted, updated_at, variables_of, WakesForgotten, walk_of, Ways}
+use Rattle.resolvo_queue.proofs.Words.{AreNoted, AreUnknown, AreWoken, clauses_at, clauses_in, Decision, ForgetsAmong}
+use Rattle.resolvo_queue.proofs.Words.{forgotten, KeepsNoted, NotesConditions, Frontier, GrowsBy, HasNoPlace, here}
+use Rattle.resolvo_queue.proofs.Words.{IsOfClause, IsPlaceOf, Known, known_at, list_at, OnlyForgets, Queued, Record}
+use Rattle.resolvo_queue.proofs.Words.{Requirement, Routes, same_requirement, Stands, there, Unrouted, updated_at}
+use Rattle.resolvo_queue.proofs.Words.{variables_of, WakesForgotten, walk_of, Ways}
 use Rattle.resolvo_queue.proofs.Rows.Occurrences.{same_self}
 use Rattle.resolvo_queue.proofs.Lists.{append_left, append_right, read_stands, same_or_not, same_some}
 use Rattle.resolvo_queue.proofs.Lists.{stands_append, stands_cases}
@@ -184,7 +185,21 @@ pub step_unknown : (listed : List Requirement) (i : ℕ) (d : Requirement) → i
 step_unknown listed i d within before now more u w = subst (λ rs. AreUnknown rs now) (sym (take_more listed i d within))
     (unknown_more (take i listed) (get_or listed i d) now (unknown_stays (take i listed) before now more u) w)
 
+pub always_ok : {T E : Type 0} (P : Type 0) (res : Result T E) → P → OnOk res P
+always_ok P (Ok x) p = p
+always_ok P (Err e) p = tt
+
 -- ---- routing variables
+
+just_one : (P : ℕ → Type 0) (x y : ℕ) → Stands y (x ∷ []) → P x → P y
+just_one P x y here p = p
+just_one P x y (there s) p = elim s [ ]
+
+variables_more : (ds : List Decision) (i : ℕ) (d : Decision) → i < length ds → d ≡ get_or ds i d →
+    variables_of (take (i + 1) ds) ≡ variables_of (take i ds) ++ d.variable ∷ []
+variables_more ds i d within read =
+    ap variables_of (take_more ds i d within ∙ ap (λ x. take i ds ++ x ∷ []) (sym read)) ∙
+    map-append (λ (x : Decision). x.variable) (take i ds) (d ∷ [])
 
 module _ (w : Ways) where
   pub routes_none : (ts : List Record) (q : Queued) → Routes w [] ts ts q q
@@ -192,7 +207,6 @@ module _ (w : Ways) where
     grows = grows_none (IsOfClause w.clauses) q;
     only = forgets_none ts;
     parents = λ v s. elim s [ ];
-    conditions = λ v s. elim s [ ];
     unknown = λ v s. elim s [ ];
     woken = wakes_none w ts q;
     others = λ k t e h. e;
@@ -207,11 +221,6 @@ module _ (w : Ways) where
       | inl x ↦ woken_stays w.clauses (IsOfClause w.clauses) w.val (list_at w.by_parent v) p r g.grows (f.parents v x)
       | inr y ↦ g.parents v y
     ];
-    conditions = λ v s. elim (stands_append vs us v s) [
-      | inl x ↦ (λ e. woken_stays w.clauses (IsOfClause w.clauses) w.val (list_at w.by_condition v) p r g.grows
-          (f.conditions v x e))
-      | inr y ↦ g.conditions v y
-    ];
     unknown = λ v s. elim (stands_append vs us v s) [
       | inl x ↦ unknown_stays (w.requirements v) b c g.only (f.unknown v x)
       | inr y ↦ g.unknown v y
@@ -222,30 +231,21 @@ module _ (w : Ways) where
   }
 
   -- one variable
-  pub routes_one : {T E : Type 0} (result : Result T E) (v : ℕ) (ts ts' : List Record) (q0 q1 q2 q3 : Queued) →
+  pub routes_one : {T E : Type 0} (result : Result T E) (v : ℕ) (ts ts' : List Record) (q0 q1 q2 : Queued) →
       GrowsBy (IsOfClause w.clauses) q0 q1 → AreWoken w.clauses w.val (list_at w.by_parent v) q1 →
-      GrowsBy (IsOfClause w.clauses) q1 q2 →
-      (is_some (w.val v) ≡ true → AreWoken w.clauses w.val (list_at w.by_condition v) q2) →
-      GrowsBy (IsOfClause w.clauses) q2 q3 → OnlyForgets ts ts' → ForgetsAmong (w.requirements v) ts ts' →
-      OnOk result (AreUnknown (w.requirements v) ts') → OnOk result (WakesForgotten w ts ts' q3) →
-      OnOk result (Routes w (v ∷ []) ts ts' q0 q3)
-  routes_one (Err e) v ts ts' q0 q1 q2 q3 f by_p g by_c h o m u y = tt
-  routes_one (Ok x) v ts ts' q0 q1 q2 q3 f by_p g by_c h o m u y = record {
-    grows = grows_both (IsOfClause w.clauses) q0 q2 q3 (grows_both (IsOfClause w.clauses) q0 q1 q2 f g) h;
+      GrowsBy (IsOfClause w.clauses) q1 q2 → OnlyForgets ts ts' → ForgetsAmong (w.requirements v) ts ts' →
+      OnOk result (AreUnknown (w.requirements v) ts') → OnOk result (WakesForgotten w ts ts' q2) →
+      OnOk result (Routes w (v ∷ []) ts ts' q0 q2)
+  routes_one (Err e) v ts ts' q0 q1 q2 f by_p h o m u y = tt
+  routes_one (Ok x) v ts ts' q0 q1 q2 f by_p h o m u y = record {
+    grows = grows_both (IsOfClause w.clauses) q0 q1 q2 f h;
     only = o;
-    parents = λ a s. just (λ b. AreWoken w.clauses w.val (list_at w.by_parent b) q3) v a s
-        (woken_stays w.clauses (IsOfClause w.clauses) w.val (list_at w.by_parent v) q1 q3
-        (grows_both (IsOfClause w.clauses) q1 q2 q3 g h) by_p);
-    conditions = λ a s. just (λ b. is_some (w.val b) ≡ true → AreWoken w.clauses w.val (list_at w.by_condition b) q3)
-        v a s (λ e. woken_stays w.clauses (IsOfClause w.clauses) w.val (list_at w.by_condition v) q2 q3 h (by_c e));
-    unknown = λ a s. just (λ b. AreUnknown (w.requirements b) ts') v a s u;
+    parents = λ a s. just_one (λ b. AreWoken w.clauses w.val (list_at w.by_parent b) q2) v a s
+        (woken_stays w.clauses (IsOfClause w.clauses) w.val (list_at w.by_parent v) q1 q2 h by_p);
+    unknown = λ a s. just_one (λ b. AreUnknown (w.requirements b) ts') v a s u;
     woken = y;
     others = λ k t e n. m k t e (n v here);
   }
-    where
-      just : (P : ℕ → Type 0) (x y : ℕ) → Stands y (x ∷ []) → P x → P y
-      just P x y here p = p
-      just P x y (there s) p = elim s [ ]
 
   -- a loop's step
   pub step_routes : (ds : List Decision) (i : ℕ) (d : Decision) → i < length ds → d ≡ get_or ds i d →
@@ -253,13 +253,29 @@ module _ (w : Ways) where
       Routes w (variables_of (take i ds)) a b q p → Routes w (d.variable ∷ []) b c p r →
       Routes w (variables_of (take (i + 1) ds)) a c q r
   step_routes ds i d within read a b c q p r f g = subst (λ vs. Routes w vs a c q r)
-      (sym (ap variables_of (take_more ds i d within ∙ ap (λ x. take i ds ++ x ∷ []) (sym read)) ∙
-      map-append (λ (x : Decision). x.variable) (take i ds) (d ∷ [])))
+      (sym (variables_more ds i d within read))
       (routes_both (variables_of (take i ds)) (d.variable ∷ []) a b c q p r f g)
 
-pub always_ok : {T E : Type 0} (P : Type 0) (res : Result T E) → P → OnOk res P
-always_ok P (Ok x) p = p
-always_ok P (Err e) p = tt
+  -- conditions that are noted
+  pub notes_both : (vs us : List ℕ) (noted noted' : List ℕ) → NotesConditions w vs noted → KeepsNoted noted noted' →
+      NotesConditions w us noted' → NotesConditions w (vs ++ us) noted'
+  notes_both vs us noted noted' f kept g v s e d at = elim (stands_append vs us v s) [
+    | inl x ↦ kept d (f v x e d at)
+    | inr y ↦ g v y e d at
+  ]
+
+  pub notes_one : {T E : Type 0} (result : Result T E) (v : ℕ) (noted : List ℕ) →
+      (is_some (w.val v) ≡ true → AreNoted (list_at w.conditions v) noted) →
+      OnOk result (NotesConditions w (v ∷ []) noted)
+  notes_one result v noted are = always_ok (NotesConditions w (v ∷ []) noted) result
+      (λ u s. just_one (λ b. is_some (w.val b) ≡ true → AreNoted (list_at w.conditions b) noted) v u s are)
+
+  pub step_notes : (ds : List Decision) (i : ℕ) (d : Decision) → i < length ds → d ≡ get_or ds i d →
+      (noted noted' : List ℕ) → NotesConditions w (variables_of (take i ds)) noted → KeepsNoted noted noted' →
+      NotesConditions w (d.variable ∷ []) noted' → NotesConditions w (variables_of (take (i + 1) ds)) noted'
+  step_notes ds i d within read noted noted' f kept g = subst (λ vs. NotesConditions w vs noted')
+      (sym (variables_more ds i d within read))
+      (notes_both (variables_of (take i ds)) (d.variable ∷ []) noted noted' f kept g)
 
 pub take_rest : {X : Type 0} (n : ℕ) (xs : List X) → take (length xs - n) (drop n xs) ≡ drop n xs
 take_rest n xs = take_all (length xs - n) (drop n xs)

@@ -4,9 +4,11 @@ use Rattle.std.proofs.Common.{List, [], ◌∷◌, length, map, set, get_or, tak
 use Rattle.std.proofs.Common.{Result, Ok, Err, OnOk, OnErr, slice_get, sym, ap, refl, ◌∙◌, subst, arith}
 use Rattle.std.proofs.lemmas.List.{take_more}
 use Rattle.std.proofs.lemmas.Option.{slice_get_within}
-use Rattle.resolvo_queue.proofs.Words.{AreLocated, at_position, clause_of, clauses_at, first_from, GrowsBy, has}
-use Rattle.resolvo_queue.proofs.Words.{HasNoClause, heated, Heats, IsFirstOf, IsInOrder, IsOfClause, IsPlaceOf, list_at}
-use Rattle.resolvo_queue.proofs.Words.{Position, Queued, same_position, Stands, TrackedClause, Tracking}
+use Rattle.resolvo_queue.proofs.Words.{AreChained, AreLocated, at_position, clause_of, clauses_at, first_from}
+use Rattle.resolvo_queue.proofs.Words.{GrowsBy, has}
+use Rattle.resolvo_queue.proofs.Words.{HasNoClause, heated, Heats, IsFirstOf, IsInOrder, IsNewestBelow, IsOfClause}
+use Rattle.resolvo_queue.proofs.Words.{IsPlaceOf, list_at, newest_at, Position, Queued, same_position, Stands}
+use Rattle.resolvo_queue.proofs.Words.{TrackedClause, Tracking}
 use Rattle.resolvo_queue.proofs.Syncs.HotClause.{heated_synced, set_or_elsewhere}
 use Rattle.resolvo_queue.proofs.Syncs.Queued.{added_grows, queued_stays, read_at}
 use Rattle.resolvo_queue.proofs.Lists.{same_some, stands_cases}
@@ -62,6 +64,7 @@ same_clauses cs ds e = sym (clauses_heated cs) ∙ (ap (map clause_of) e ∙ cla
 -- ---- what always holds is kept
 
 module _ (old now : Tracking) (same : SameButHeat now.clauses old.clauses) (same_lists : now.by_parent ≡ old.by_parent)
+    (same_newest : now.newest_under ≡ old.newest_under)
     (same_records : now.requirements ≡ old.requirements) where
   origin : (n : ℕ) (c : TrackedClause) → slice_get now.clauses n ≡ Some c →
       (d : TrackedClause) × (slice_get old.clauses n ≡ Some d) × (heated c ≡ heated d)
@@ -94,6 +97,26 @@ module _ (old now : Tracking) (same : SameButHeat now.clauses old.clauses) (same
         first = f.first ∙ sym (same_first now.clauses old.clauses same parent);
       }
 
+  still_below : (end d next : ℕ) → IsNewestBelow old.clauses end d next → IsNewestBelow now.clauses end d next
+  still_below end d next b = record {
+    below = λ n c at lt is. (let o = origin n c at in
+        b.below n o.0 o.1 lt (ap (λ (x : TrackedClause). x.condition) (sym o.2) ∙ is));
+    within = b.within;
+    own = λ k e c at. (let o = origin k c at in
+        ap (λ (x : TrackedClause). x.condition) o.2 ∙ b.own k e o.0 o.1);
+  }
+
+  still_chained : AreChained old.clauses old.newest_under → AreChained now.clauses now.newest_under
+  still_chained chained = record {
+    last = λ d. subst (λ (x : ℕ × List ℕ). IsNewestBelow now.clauses x.0 d (newest_at x.1 d))
+        (λ i. (sym (same_length now.clauses old.clauses same) i, sym same_newest i))
+        (still_below (length old.clauses) d (newest_at old.newest_under d) (chained.last d));
+    earlier = λ n c at d is. (let o = origin n c at in
+        subst (IsNewestBelow now.clauses n d) (ap (λ (x : TrackedClause). x.earlier) (sym o.2))
+        (still_below n d o.0.earlier (chained.earlier n o.0 o.1 d
+        (ap (λ (x : TrackedClause). x.condition) (sym o.2) ∙ is))));
+  }
+
   still_in_order : (IsInOrder old → GrowsBy (IsOfClause old.clauses) old.queued now.queued) →
       IsInOrder old → IsInOrder now
   still_in_order grows order = record {
@@ -105,6 +128,7 @@ module _ (old now : Tracking) (same : SameButHeat now.clauses old.clauses) (same
     parents = λ n c is. (let d = origin n c is in
         subst (λ (x : TrackedClause). Stands n (list_at now.by_parent x.parent)) (sym d.2)
         (subst (λ ls. Stands n (list_at ls d.0.parent)) (sym same_lists) (order.parents n d.0 d.1)));
+    chained = still_chained order.chained;
     requirements = λ n c is. (let d = origin n c is in
         subst (λ (x : TrackedClause). Stands n (clauses_at now.requirements x.record)) (sym d.2)
         (subst (λ ts. Stands n (clauses_at ts d.0.record)) (sym same_records) (order.requirements n d.0 d.1)));
@@ -123,10 +147,12 @@ heats_none t = record {
   in_order = λ o. o;
   cold = λ n c is e. is;
   by_parent = refl;
-  by_condition = refl;
+  newest_under = refl;
+  conditions = refl;
   requirements = refl;
   occurrences = refl;
-  finds = λ literals same n c is. (c, is, refl);
+  noted = refl;
+  finds = λ n c is. (c, is, refl);
   synced = λ literals rows_of val counted same_literals same_counted s. s;
 }
 
@@ -136,11 +162,12 @@ heats_both a b c f g = record {
   in_order = λ o. g.in_order (f.in_order o);
   cold = λ n x is e. f.cold n x (g.cold n x is e) e;
   by_parent = g.by_parent ∙ f.by_parent;
-  by_condition = g.by_condition ∙ f.by_condition;
+  newest_under = g.newest_under ∙ f.newest_under;
+  conditions = g.conditions ∙ f.conditions;
   requirements = g.requirements ∙ f.requirements;
   occurrences = g.occurrences ∙ f.occurrences;
-  finds = λ literals same n x is. (let y = g.finds literals same n x is in let z = f.finds literals same n y.0 y.1 in
-      (z.0, z.1, y.2 ∙ z.2));
+  noted = g.noted ∙ f.noted;
+  finds = λ n x is. (let y = g.finds n x is in let z = f.finds n y.0 y.1 in (z.0, z.1, y.2 ∙ z.2));
   synced = λ literals rows_of val counted same_literals same_counted s.
       g.synced literals rows_of val counted same_literals same_counted
       (f.synced literals rows_of val counted same_literals same_counted s);
@@ -168,13 +195,15 @@ module _ (t : Tracking) (n : ℕ) (c : TrackedClause) (is : slice_get t.clauses 
   heats_left : Heats t (record t { queued = q })
   heats_left = record {
     clauses = refl;
-    in_order = still_in_order t (record t { queued = q }) refl refl refl of_clauses;
+    in_order = still_in_order t (record t { queued = q }) refl refl refl refl of_clauses;
     cold = λ m d at e. at;
     by_parent = refl;
-    by_condition = refl;
+    newest_under = refl;
+    conditions = refl;
     requirements = refl;
     occurrences = refl;
-    finds = λ literals same m d at. (d, at, refl);
+    noted = refl;
+    finds = λ m d at. (d, at, refl);
     synced = λ literals rows_of val counted same_literals same_counted s. record {
       queued = λ m d at e. queued_stays (λ p. same_position c.position p ≡ true) t.queued q d grows (s.queued m d at e);
       right = s.right;
@@ -187,18 +216,19 @@ module _ (t : Tracking) (n : ℕ) (c : TrackedClause) (is : slice_get t.clauses 
   heats_this into = record {
     clauses = same_clauses (set t.clauses n (heated c)) t.clauses (set_heated t.clauses n c is);
     in_order = still_in_order t (record t { clauses = set t.clauses n (heated c); queued = q })
-        (set_heated t.clauses n c is) refl refl of_clauses;
+        (set_heated t.clauses n c is) refl refl refl of_clauses;
     cold = λ m d at e. elim (set_or_elsewhere t.clauses n (heated c) m d at) [
       | inl new ↦ (let bad : true ≡ false = ap (λ (x : TrackedClause). x.is_hot) new.0 ∙ e in cc)
       | inr was ↦ was.0
     ];
     by_parent = refl;
-    by_condition = refl;
+    newest_under = refl;
+    conditions = refl;
     requirements = refl;
     occurrences = refl;
-    finds = λ literals same m d at.
-        (let o = same_at (set t.clauses n (heated c)) t.clauses (set_heated t.clauses n c is) m d at in
-        (o.0, o.1, sym (same d) ∙ (ap literals o.2 ∙ same o.0)));
+    noted = refl;
+    finds = λ m d at. (let o = same_at (set t.clauses n (heated c)) t.clauses (set_heated t.clauses n c is) m d at in
+        (o.0, o.1, ap (λ (x : TrackedClause). x.condition) o.2));
     synced = λ literals rows_of val counted same_literals same_counted s.
         heated_synced t.clauses literals rows_of val counted t.requirements (λ p. same_position c.position p ≡ true)
         t.queued q n c same_literals same_counted is grows into s;

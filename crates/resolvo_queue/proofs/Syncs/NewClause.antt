@@ -1,5 +1,5 @@
 -- A registered clause: positions are stable, and a synced queue stays synced.
-use Rattle.std.proofs.Common.{◌≡◌, ℕ, zero, suc, ◌+◌, Bool, true, false, ◌&&◌, cond, eqb}
+use Rattle.std.proofs.Common.{◌≡◌, ℕ, suc, ◌+◌, Bool, true, false, ◌&&◌, cond, eqb}
 use Rattle.std.proofs.Common.{eq-eqb, inl, inr, List, [], ◌∷◌, ◌++◌, length, Some}
 use Rattle.std.proofs.Common.{is_some, slice_get, sym, ap, refl, ◌∙◌, arith}
 use Rattle.resolvo_queue.proofs.Words.{are_literals_false, AreLocated, at_position, first_from, KeepsQueued, known_at}

@@ -8,7 +8,7 @@ use Rattle.std.proofs.lemmas.List.{take_more}
 use Rattle.resolvo_queue.proofs.Words.{AllWokenFrom, AreWoken, GrowsBy, HaveNumbers, IsOfClause, IsQueued}
 use Rattle.resolvo_queue.proofs.Words.{IsTotalOrder, IsWoken}
 use Rattle.resolvo_queue.proofs.Words.{known_true, nat_cmp_total, ordering_then, Position, position_cmp, Queued}
-use Rattle.resolvo_queue.proofs.Words.{same_position, there, TrackedClause, Values}
+use Rattle.resolvo_queue.proofs.Words.{same_position, TrackedClause, Values}
 use Rattle.resolvo_queue.proofs.Lists.{same_some, stands_cases}
 
 -- ---- positions

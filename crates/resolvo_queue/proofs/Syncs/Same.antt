@@ -1,24 +1,24 @@
 -- A synced queue stays so where clauses, records and values are the same by other functions, and where what is kept
 -- grows.
-use Rattle.std.proofs.Common.{◌≡◌, ℕ, Bool, true, ◌&&◌, List, Option, None, Some}
-use Rattle.std.proofs.Common.{is_some, slice_get, sym, ap, ap₂, refl, ◌∙◌, subst}
+use Rattle.std.proofs.Common.{◌≡◌, ℕ, Bool, true, ◌&&◌, List, Option, None, Some, is_some, slice_get, sym, ap, refl}
+use Rattle.std.proofs.Common.{◌∙◌, subst}
 use Rattle.resolvo_queue.proofs.Words.{are_literals_false, FindsConditions, Gains, GainsClauses, GrowsBy, is_listed}
 use Rattle.resolvo_queue.proofs.Words.{is_possible, IsListedWell, KeepsQueued, known_at, Lists, Lit, may_have_frontier}
 use Rattle.resolvo_queue.proofs.Words.{Position, Queued, Record, Requirement, Row, rows_at, Stands, TrackedClause}
 use Rattle.resolvo_queue.proofs.Words.{Tracking, Values, walk_of}
 use Rattle.resolvo_queue.specs.Parts.{rows_in}
-use Rattle.resolvo_queue.proofs.Syncs.Law.{right_kept}
+use Rattle.resolvo_queue.proofs.Syncs.Law.{all_of, both_of, right_kept}
 use Rattle.resolvo_queue.proofs.Syncs.Queued.{queued_stays}
 
 module _ (cs : List TrackedClause) (literals literals' : TrackedClause → List Lit)
     (same_literals : (n : ℕ) (c : TrackedClause) → slice_get cs n ≡ Some c → literals' c ≡ literals c) where
-  pub finds_same : (by_condition : List (List ℕ)) → FindsConditions cs literals by_condition →
-      FindsConditions cs literals' by_condition
-  finds_same by_condition finds n c e l s = finds n c e l (subst (Stands l) (same_literals n c e) s)
+  pub finds_same : (conditions : List (List ℕ)) → FindsConditions cs literals conditions →
+      FindsConditions cs literals' conditions
+  finds_same conditions finds n c e l s = finds n c e l (subst (Stands l) (same_literals n c e) s)
 
   module _ (rows_of rows_of' : Requirement → List Row) (val : Values) (counted counted' : TrackedClause → Bool)
       (ts ts' : List Record) (New : Position → Type 0) (q q' : Queued)
-      (same_counts : (n : ℕ) (c : TrackedClause) → slice_get cs n ≡ Some c → counted' c ≡ counted c)
+      (no_more_count : (n : ℕ) (c : TrackedClause) → slice_get cs n ≡ Some c → counted' c ≡ true → counted c ≡ true)
       (same_known : (k : ℕ) → known_at ts' k ≡ known_at ts k)
       (same_rows : (k : ℕ) → is_some (known_at ts k) ≡ true → rows_at rows_of' ts' k ≡ rows_at rows_of ts k)
       (grows : GrowsBy New q q') where
@@ -26,9 +26,12 @@ module _ (cs : List TrackedClause) (literals literals' : TrackedClause → List 
         is_possible literals' counted' val (known_at ts') c ≡ true
         → is_possible literals counted val (known_at ts) c ≡ true
     was_possible n c e h =
-        sym (ap₂ (λ a ls. a && (are_literals_false val ls && may_have_frontier (known_at ts' c.record)))
-        (same_counts n c e) (same_literals n c e)
-        ∙ ap (λ w. counted c && (are_literals_false val (literals c) && may_have_frontier w)) (same_known c.record)) ∙ h
+        let p = both_of (counted' c) (are_literals_false val (literals' c) && may_have_frontier (known_at ts' c.record))
+        h in
+        let m = both_of (are_literals_false val (literals' c)) (may_have_frontier (known_at ts' c.record)) p.1 in
+        all_of (counted c) (are_literals_false val (literals c)) (may_have_frontier (known_at ts c.record))
+        (no_more_count n c e p.0) (ap (are_literals_false val) (sym (same_literals n c e)) ∙ m.0)
+        (ap may_have_frontier (sym (same_known c.record)) ∙ m.1)
 
     pub synced_same : KeepsQueued cs literals rows_of val counted ts q →
         KeepsQueued cs literals' rows_of' val counted' ts' q'

@@ -1,5 +1,5 @@
 -- What is owed of requirements after a registration, and after a sync.
-use Rattle.std.proofs.Common.{◌≡◌, ℕ, zero, suc, ◌+◌, ◌≤◌, ◌<◌, min, Bool, true, false, cond, ltb, ◌⊎◌, inl, inr}
+use Rattle.std.proofs.Common.{◌≡◌, ℕ, zero, suc, ◌+◌, ◌≤◌, ◌<◌, min, Bool, true, false, cond, ◌⊎◌, inl, inr}
 use Rattle.std.proofs.Common.{List, [], ◌∷◌, ◌++◌, flat_map, drop, length, take, Option, Some, None, option_map}
 use Rattle.std.proofs.Common.{is_some, slice_get, sym, ap, ap₂, refl, ◌∙◌, subst, arith, length-take}
 use Rattle.std.proofs.lemmas.List.{drop_all}

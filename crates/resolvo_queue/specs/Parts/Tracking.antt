@@ -1,6 +1,6 @@
 -- What a queue keeps beside what contracts see, and how a clause comes to it.
-use Rattle.std.specs.Prelude.{◌≡◌, ◌==◌, ◌<◌, ◌^◌, ℕ, Bool, true, false, List, [], ◌∷◌}
-use Rattle.std.specs.Prelude.{◌++◌, map, length, Some, is_some, slice_get, MatchOption}
+use Rattle.std.specs.Prelude.{◌≡◌, ◌==◌, ◌<◌, ◌^◌, ℕ, Bool, true, false, List, [], ◌∷◌, ◌++◌, ◌+◌, ◌⊎◌, map, length}
+use Rattle.std.specs.Prelude.{Some, is_some, slice_get, IfSome, MatchOption}
 use Rattle.resolvo_queue.specs.Types.{IsUpdate, Lit, Position, Requirement, RequiresClause, SameValues, TrackedClause}
 use Rattle.resolvo_queue.specs.Types.{Values}
 use Rattle.resolvo_queue.specs.Rows.ByVariable.{list_at}
@@ -10,7 +10,8 @@ use Rattle.resolvo_queue.specs.Members.{Stands}
 use Rattle.resolvo_queue.specs.Scan.Positions.{has}
 use Rattle.resolvo_queue.specs.Parts.{Queued, IsOfClause, heated}
 use Rattle.resolvo_queue.specs.Pick.Ready.{AreLocated, at_position}
-use Rattle.resolvo_queue.specs.Parts.{FoundByAll}
+use Rattle.resolvo_queue.specs.Parts.{FoundByAll, HasCondition, KeepsItems}
+use Rattle.resolvo_queue.specs.Parts.UnderConditions.{AreChained, newest_at, Renews}
 use Rattle.resolvo_queue.specs.Rows.{Row}
 use Rattle.resolvo_queue.specs.Scan.First.{first_from, position_in}
 use Rattle.resolvo_queue.specs.Routing.Synced.{KeepsQueued}
@@ -21,19 +22,23 @@ use Rattle.resolvo_queue.specs.declared.tracked_clauses.TrackedClauses.{TrackedC
 pub record Tracking : Type 0 where
   pub clauses : List TrackedClause
   pub by_parent : List (List ℕ)
-  pub by_condition : List (List ℕ)
+  pub newest_under : List ℕ
+  pub conditions : List (List ℕ)
   pub requirements : List Record
   pub occurrences : Listed
   pub queued : Queued
+  pub noted : List ℕ
 
 abbrev pub tracking_of : {A : Type 0} → TrackedClauses A → Tracking
 tracking_of t = record {
   clauses = t.index.clauses.items;
   by_parent = t.index.by_parent;
-  by_condition = t.index.by_condition;
+  newest_under = t.index.newest_under.items;
+  conditions = t.index.conditions;
   requirements = t.requirements;
   occurrences = t.occurrences;
   queued = t.queued;
+  noted = t.noted;
 }
 
 -- ---- a parent's first clause
@@ -61,7 +66,8 @@ pub record IsInOrder (t : Tracking) : Type 0 where
   -- positions are those of the scan, and a parent's list begins with its first clause
   pub located : AreLocated t.clauses
   pub first : BeginFirst t.clauses t.by_parent
-  -- each clause is found by its parent and by its requirement, whose record it knows
+  -- each clause is found by its parent, by its condition, and by its requirement, whose record it knows
+  pub chained : AreChained t.clauses t.newest_under
   pub parents : (n : ℕ) (c : TrackedClause) → slice_get t.clauses n ≡ Some c → Stands n (list_at t.by_parent c.parent)
   pub requirements : (n : ℕ) (c : TrackedClause) → slice_get t.clauses n ≡ Some c →
       Stands n (clauses_at t.requirements c.record)
@@ -84,15 +90,17 @@ pub record GainsClauses (old now : List Record) : Type 0 where
 -- what was found is found, nothing more is known, and nothing is queued
 pub record Gains (old now : Tracking) : Type 0 where
   pub records : GainsClauses old.requirements now.requirements
-  pub conditions : (v n : ℕ) → Stands n (list_at old.by_condition v) → Stands n (list_at now.by_condition v)
+  pub conditions : KeepsItems old.conditions now.conditions
   pub occurrences : now.occurrences ≡ old.occurrences
   pub queued : now.queued ≡ old.queued
+  pub noted : now.noted ≡ old.noted
 
 -- a registration was refused: what it left behind harms nothing
 pub record IsAsBefore (old now : Tracking) : Type 0 where
   pub gains : Gains old now
   pub clauses : now.clauses ≡ old.clauses
   pub by_parent : SameValues (list_at old.by_parent) (list_at now.by_parent)
+  pub newest_under : SameValues (newest_at old.newest_under) (newest_at now.newest_under)
 
 -- one clause more, found by all that have to find it
 pub record Registers (clause : RequiresClause) (is_hot : Bool) (literals : List Lit) (old now : Tracking) : Type 0 where
@@ -105,7 +113,9 @@ pub record Registers (clause : RequiresClause) (is_hot : Bool) (literals : List 
       (length old.clauses, new)
   pub by_parent : IsUpdate (list_at old.by_parent) clause.parent
       (list_at old.by_parent clause.parent ++ length old.clauses ∷ []) (list_at now.by_parent)
-  pub conditions : FoundByAll (length old.clauses) literals now.by_condition
+  pub newest_under : Renews clause.condition (length old.clauses + 1) old.newest_under now.newest_under
+  pub earlier : IfSome clause.condition (λ d. new.earlier ≡ newest_at old.newest_under d)
+  pub conditions : IfSome clause.condition (λ d. FoundByAll d literals now.conditions ⊎ HasCondition old.clauses d)
   pub requirements : Stands (length old.clauses) (clauses_at now.requirements new.record)
   pub placed : IsPlaceOf now.requirements new.requirement new.record
 
@@ -118,12 +128,13 @@ pub record Heats (old now : Tracking) : Type 0 where
   pub cold : (n : ℕ) (c : TrackedClause) → slice_get now.clauses n ≡ Some c → c.is_hot ≡ false →
       slice_get old.clauses n ≡ Some c
   pub by_parent : now.by_parent ≡ old.by_parent
-  pub by_condition : now.by_condition ≡ old.by_condition
+  pub newest_under : now.newest_under ≡ old.newest_under
+  pub conditions : now.conditions ≡ old.conditions
   pub requirements : now.requirements ≡ old.requirements
   pub occurrences : now.occurrences ≡ old.occurrences
-  pub finds : (literals : TrackedClause → List Lit) → ((d : TrackedClause) → literals (heated d) ≡ literals d) →
-      (n : ℕ) (c : TrackedClause) → slice_get now.clauses n ≡ Some c →
-      (d : TrackedClause) × (slice_get old.clauses n ≡ Some d) × (literals c ≡ literals d)
+  pub noted : now.noted ≡ old.noted
+  pub finds : (n : ℕ) (c : TrackedClause) → slice_get now.clauses n ≡ Some c →
+      (d : TrackedClause) × (slice_get old.clauses n ≡ Some d) × (c.condition ≡ d.condition)
   pub synced : (literals : TrackedClause → List Lit) (rows_of : Requirement → List Row) (val : Values)
       (counted : TrackedClause → Bool) → ((d : TrackedClause) → literals (heated d) ≡ literals d) →
       ((d : TrackedClause) → counted (heated d) ≡ counted d) →

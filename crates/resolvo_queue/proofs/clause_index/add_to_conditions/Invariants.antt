@@ -4,6 +4,6 @@ use Rattle.resolvo_queue.proofs.clause_index.add_to_conditions.Given as goal
 
 abbrev pub invariant-loop-literal : goal.invariant-loop-literal
 invariant-loop-literal g l = record {
-  grows : GainsNumber l.number l.initial.by_condition l.by_condition;
-  all : FoundByAll l.number (take l.literal-index l.literals) l.by_condition;
+  grows : GainsNumber l.disjunction l.initial.conditions l.conditions;
+  all : FoundByAll l.disjunction (take l.literal-index l.literals) l.conditions;
 }

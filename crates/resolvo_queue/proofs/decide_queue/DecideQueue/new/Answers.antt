@@ -9,8 +9,8 @@ invariant_of-result g c =
     let made : Queue g.row.D-NameId.Denot g.row.D-NameId-Set.Denot =
     queue_of c.new.result c.new-2.result.items c.new-4.result 0 in
     let names = c.new-2.ensures in (
-      kept_new g.D.NameId.Set.IdSet.has made c.new.ensures.clauses c.new.ensures.by_parent c.new.ensures.queued names
-          refl,
+      kept_new g.D.NameId.Set.IdSet.has made c.new.ensures.clauses c.new.ensures.by_parent c.new.ensures.newest_under
+          c.new.ensures.queued names refl,
       entered_none g.D.NameId.Slots.IdMap.is_too_large (numbers_under g.D.NameId.Slots.IdMap.value_at c.new-3.result)
           c.new-2.result.items names,
     )

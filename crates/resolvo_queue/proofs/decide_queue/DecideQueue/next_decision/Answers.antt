@@ -1,10 +1,10 @@
 use Rattle.std.proofs.lemmas.Grind.{common_steps}
-use Rattle.std.proofs.Common.{◌≡◌, ◌≤◌, length, map, slice_get, sym, ap, refl, subst, ◌∙◌, arith}
+use Rattle.std.proofs.Common.{◌≡◌, ◌≤◌, length, map, sym, ap, refl, subst, ◌∙◌, arith}
 use Rattle.std.specs.Prelude.{All}
 use Rattle.std.proofs.lemmas.Result.{IfOk-weaker}
-use Rattle.resolvo_queue.proofs.Words.{AllWokenFrom, AreNamed, CanWalk, clause_literals, clause_of, eligible, GrowsBy}
-use Rattle.resolvo_queue.proofs.Words.{IsOfClause, IsSynced, literals_in, OnlyHotScore, owed, pick, Queue, queue_of}
-use Rattle.resolvo_queue.proofs.Words.{references, score_in, StandsOn, values_in, WalksOnce}
+use Rattle.resolvo_queue.proofs.Words.{AreNamed, CanWalk, clause_literals, clause_of, eligible, IsSynced, literals_in}
+use Rattle.resolvo_queue.proofs.Words.{OnlyHotScore, owed, pick, Queue, queue_of, references, score_in, StandsOn}
+use Rattle.resolvo_queue.proofs.Words.{values_in, WalksOnce}
 use Rattle.resolvo_queue.specs.References.{rows_in}
 use Rattle.resolvo_queue.proofs.Clauses.Synced.{kept_still, order_asked, order_grown}
 use Rattle.resolvo_queue.proofs.Clauses.Synced.{ready_asked, stands_asked, stands_partly}
@@ -16,46 +16,45 @@ use Rattle.resolvo_queue.proofs.Picks.Unbeaten.{decides_unbeaten, none_decided, 
 use Rattle.resolvo_queue.proofs.Picks.Offers.{offered_registered}
 use Rattle.resolvo_queue.proofs.decide_queue.DecideQueue.next_decision.Goals as goal
 
-pub wake_from-requires-clause-numbers : goal.wake_from-requires-clause-numbers
-wake_from-requires-clause-numbers g c = λ n d e.
-    own_number c.self.inside.tracked.index.clauses.items c.self.invariant.0.order.located n d
-    (ap (λ cs. slice_get cs n) (sym c.as_slice.ensures.value) ∙ e)
+pub wake_due-requires-clause-numbers : goal.wake_due-requires-clause-numbers
+wake_due-requires-clause-numbers g c = λ n d e.
+    own_number c.self.inside.tracked.index.clauses.items c.self.invariant.0.order.located n d e
 
-pub wake_from-requires-clause-first : goal.wake_from-requires-clause-first
-wake_from-requires-clause-first g c =
-    subst (λ cs. c.self.inside.woken ≤ length cs) (sym c.as_slice.ensures.value) c.self.invariant.0.woken
+pub wake_due-requires-clause-chained : goal.wake_due-requires-clause-chained
+wake_due-requires-clause-chained g c = c.self.invariant.0.order.chained
+
+pub wake_due-requires-clause-first : goal.wake_due-requires-clause-first
+wake_due-requires-clause-first g c = c.self.invariant.0.woken
 
 -- some were woken, and then memory was refused
 pub invariant_of-self : goal.invariant_of-self
 invariant_of-self g c = (
-  kept_still c.self.invariant.0
-      (order_grown (subst (λ cs. GrowsBy (IsOfClause cs) c.self.inside.tracked.queued c.wake_from.new.queued)
-      c.as_slice.ensures.value c.wake_from.ensures.grows) c.self.invariant.0.order)
+  kept_still c.self.invariant.0 (order_grown refl refl refl refl c.wake_due.ensures.grows c.self.invariant.0.order)
       refl refl refl c.self.invariant.0.woken,
   c.self.invariant.1,
 )
 
-pub returns-in_err-wake_from-clause-stands : goal.returns-in_err-wake_from-clause-stands
-returns-in_err-wake_from-clause-stands g c =
+pub returns-in_err-wake_due-clause-stands : goal.returns-in_err-wake_due-clause-stands
+returns-in_err-wake_due-clause-stands g c =
     let inside = c.self.inside in
     let before : Queue g.row.D-NameId.Denot g.row.D-NameId-Set.Denot =
     queue_of inside.tracked inside.names.items inside.hot_names inside.woken in
     let after : Queue g.row.D-NameId.Denot g.row.D-NameId-Set.Denot =
-    queue_of (record inside.tracked { queued = c.wake_from.new.queued }) inside.names.items inside.hot_names
-    inside.woken in
+    queue_of (record inside.tracked { queued = c.wake_due.new.queued; noted = c.wake_due.new.noted })
+    inside.names.items inside.hot_names inside.woken in
     let refs = references (g.D.Interner.universe c.args.provider.now) c.args.reader.now.lists c.args.disjunctions.now in
     stands_partly g.D.NameId.Set.IdSet.has refs before after c.self.invariant.0
-    (subst (StandsOn refs) (sym c.self.view_is) c.requires.stands) refl refl refl refl refl refl refl refl
-    (subst (λ cs. GrowsBy (IsOfClause cs) inside.tracked.queued c.wake_from.new.queued)
-    c.as_slice.ensures.value c.wake_from.ensures.grows)
+    (subst (StandsOn refs) (sym c.self.view_is) c.requires.stands) refl refl refl (values_in c.args.map.now)
+    (subst (IsSynced (values_in c.args.map.now)) (sym c.self.view_is) c.requires.synced) refl refl refl refl
+    c.wake_due.ensures.grows c.wake_due.ensures.settles
 
-pub returns-in_err-wake_from-clause-walks : goal.returns-in_err-wake_from-clause-walks
-returns-in_err-wake_from-clause-walks g c = subst (λ (q : Queue g.row.D-NameId.Denot g.row.D-NameId-Set.Denot).
+pub returns-in_err-wake_due-clause-walks : goal.returns-in_err-wake_due-clause-walks
+returns-in_err-wake_due-clause-walks g c = subst (λ (q : Queue g.row.D-NameId.Denot g.row.D-NameId-Set.Denot).
     WalksOnce q.inside.requirements c.self.inside.tracked.requirements c.args.reader.now.walked
     c.args.reader.now.walked) c.self.view_is (walks_nothing c.self.inside.tracked.requirements c.args.reader.now.walked)
 
-pub returns-in_err-wake_from-clause-owed : goal.returns-in_err-wake_from-clause-owed
-returns-in_err-wake_from-clause-owed g c =
+pub returns-in_err-wake_due-clause-owed : goal.returns-in_err-wake_due-clause-owed
+returns-in_err-wake_due-clause-owed g c =
     λ r. ap (λ (q : Queue g.row.D-NameId.Denot g.row.D-NameId-Set.Denot). owed q r) c.self.view_is
 
 pub next_offer-requires-clause-decidable : goal.next_offer-requires-clause-decidable
@@ -63,6 +62,9 @@ next_offer-requires-clause-decidable g c =
     let inside = c.self.inside in
     let before : Queue g.row.D-NameId.Denot g.row.D-NameId-Set.Denot =
     queue_of inside.tracked inside.names.items inside.hot_names inside.woken in
+    let after : Queue g.row.D-NameId.Denot g.row.D-NameId-Set.Denot =
+    queue_of (record inside.tracked { queued = c.wake_due.new.queued; noted = c.wake_due.new.noted })
+    inside.names.items inside.hot_names inside.woken in
     let refs = references (g.D.Interner.universe c.args.provider.now) c.args.reader.now.lists c.args.disjunctions.now in
     let stands : StandsOn refs before = subst (StandsOn refs) (sym c.self.view_is) c.requires.stands in
     record {
@@ -72,13 +74,11 @@ next_offer-requires-clause-decidable g c =
           (subst (λ (q : Queue g.row.D-NameId.Denot g.row.D-NameId-Set.Denot). All (CanWalk refs) q.clauses)
           (sym c.self.view_is) c.requires.walkable);
       listed = stands.listed;
-      ready = ready_asked g.D.NameId.Set.IdSet.has refs before before c.self.invariant.0 stands refl refl refl
+      ready = ready_asked g.D.NameId.Set.IdSet.has refs before after c.self.invariant.0 stands refl refl refl
           (values_in c.args.map.now)
-          (subst (IsSynced (values_in c.args.map.now)) (sym c.self.view_is) c.requires.synced) c.wake_from.new.queued
-          (subst (λ cs. GrowsBy (IsOfClause cs) inside.tracked.queued c.wake_from.new.queued)
-          c.as_slice.ensures.value c.wake_from.ensures.grows)
-          (subst (λ cs. AllWokenFrom inside.woken cs (values_in c.args.map.now) c.wake_from.new.queued)
-          c.as_slice.ensures.value c.in_ok-wake_from.ensures.woken);
+          (subst (IsSynced (values_in c.args.map.now)) (sym c.self.view_is) c.requires.synced)
+          c.wake_due.ensures.grows c.wake_due.ensures.settles
+          c.in_ok-wake_due.ensures.woken c.in_ok-wake_due.ensures.none;
     }
 
 pub next_offer-requires-clause-cold : goal.next_offer-requires-clause-cold
@@ -102,7 +102,8 @@ invariant_of-self-2 g c =
     let len : c.len-self-inside.result ≡ length c.self.inside.tracked.index.clauses.items =
     c.len-self-inside.ensures ∙ c.self.inside.tracked.index.clauses.ok.0 in (
       kept_still c.self.invariant.0
-          (order_asked (ap (λ ix. ix.clauses.items) walks.index) (ap (λ ix. ix.by_parent) walks.index) walks.found
+          (order_asked (ap (λ ix. ix.clauses.items) walks.index) (ap (λ ix. ix.by_parent) walks.index)
+          (ap (λ ix. ix.newest_under.items) walks.index) walks.found
           (ready_by walks.index c.next_offer.ensures.decidable) c.self.invariant.0.order)
           (ap (λ ix. ix.clauses.items) walks.index) refl refl
           (subst (λ k. k ≤ length c.self.inside.tracked.index.clauses.items) (sym len) (omega arith)),
@@ -123,7 +124,7 @@ returns-clause-stands g c =
     let stands : StandsOn refs before = subst (StandsOn refs) (sym c.self.view_is) c.requires.stands in
     stands_asked g.D.NameId.Set.IdSet.has refs before after c.self.invariant.0 stands
     (ap (λ ix. map clause_of ix.clauses.items) index) (ap (λ ix. ix.clauses.items) index)
-    (ap (λ ix. ix.by_condition) index) (values_in c.args.map.now)
+    (ap (λ ix. ix.conditions) index) (values_in c.args.map.now)
     (subst (IsSynced (values_in c.args.map.now)) (sym c.self.view_is) c.requires.synced)
     (ap (λ t. t.items) c.next_offer.ensures.walks.trail) len c.next_offer.ensures.decidable.listed
     (ready_by c.next_offer.ensures.walks.index c.next_offer.ensures.decidable)

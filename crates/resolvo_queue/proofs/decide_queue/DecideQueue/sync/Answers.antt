@@ -16,7 +16,8 @@ sync-requires-clause-numbers g c = λ n d e.
 pub invariant_of-self : goal.invariant_of-self
 invariant_of-self g c = (
   kept_still c.self.invariant.0 (order_after_sync (ap (λ ix. ix.clauses.items) c.sync.ensures.same.0)
-      (ap (λ ix. ix.by_parent) c.sync.ensures.same.0) c.sync.ensures.only c.sync.ensures.grows c.self.invariant.0.order)
+      (ap (λ ix. ix.by_parent) c.sync.ensures.same.0) (ap (λ ix. ix.newest_under.items) c.sync.ensures.same.0)
+      c.sync.ensures.only c.sync.ensures.grows c.self.invariant.0.order)
       (ap (λ ix. ix.clauses.items) c.sync.ensures.same.0) refl refl c.self.invariant.0.woken,
   c.self.invariant.1,
 )
@@ -43,7 +44,7 @@ returns-clause-stands g c =
     let less : c.min-floor.result ≤ c.args.floor = grind (arith, c.min.ensures, c.min-floor.ensures) in
     λ refs s. stands_after g.D.NameId.Set.IdSet.has refs before after c.self.invariant.0
     (subst (StandsOn refs) (sym c.self.view_is) s) (ap (λ ix. map clause_of ix.clauses.items) c.sync.ensures.same.0)
-    (ap (λ ix. ix.clauses.items) c.sync.ensures.same.0) (ap (λ ix. ix.by_condition) c.sync.ensures.same.0)
+    (ap (λ ix. ix.clauses.items) c.sync.ensures.same.0) (ap (λ ix. ix.conditions) c.sync.ensures.same.0)
     c.args.floor c.min-floor.result c.args.trail.now _ less
     (subst (λ (q : Queue g.row.D-NameId.Denot g.row.D-NameId-Set.Denot). q.must_start_anew ≡ false →
     AgreesBelow c.args.floor c.args.trail.now q) (sym c.self.view_is) c.requires.agrees)

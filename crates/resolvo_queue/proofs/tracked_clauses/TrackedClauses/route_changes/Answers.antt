@@ -1,7 +1,7 @@
 use Rattle.std.proofs.Common.{◌≡◌, ℕ, List, [], drop, take, ◌++◌, false, ap, refl, sym, subst, ◌∙◌}
-use Rattle.resolvo_queue.proofs.Words.{IsOfClause, listing, Routes, SyncsTo, Unrouted, values_in, values_of}
-use Rattle.resolvo_queue.proofs.Words.{variables_of, ways_of}
-use Rattle.resolvo_queue.proofs.Syncs.Forgetting.{always_ok, none_from, routes_both, routes_none, take_rest}
+use Rattle.resolvo_queue.proofs.Words.{IsOfClause, listing, NotesConditions, Routes, SyncsTo, Unrouted, values_in}
+use Rattle.resolvo_queue.proofs.Words.{values_of, variables_of, ways_of}
+use Rattle.resolvo_queue.proofs.Syncs.Forgetting.{always_ok, none_from, notes_both, routes_both, routes_none, take_rest}
 use Rattle.resolvo_queue.proofs.Syncs.Forgetting.{whole_at, unrouted_along, unrouted_more}
 use Rattle.resolvo_queue.proofs.Syncs.Queued.{grows_below, grows_both, numbers_below}
 use Rattle.resolvo_queue.proofs.Syncs.Routes.{changes_sync}
@@ -19,12 +19,13 @@ returns-then-is_whole_at-clause-synced g c =
     (variables_of (drop c.args.floor before) ++ variables_of (drop c.args.floor c.args.trail.now)) =
     sym (ap (λ ds. variables_of ds ++ variables_of (drop c.args.floor c.args.trail.now))
     (none_from c.args.floor before ends.0) ∙ ap variables_of (none_from c.args.floor c.args.trail.now ends.1)) in
-    subst (λ vs. SyncsTo clauses w.by_parent w.by_condition w.requirements c.args.woken false (values_of before) w.val
-    vs
-    c.args.self.now.requirements c.args.self.now.requirements c.args.self.now.queued c.args.self.now.queued) none
+    subst (λ vs. SyncsTo clauses w.by_parent w.conditions w.requirements c.args.woken false (values_of before) w.val
+    vs c.args.self.now.requirements c.args.self.now.requirements c.args.self.now.queued c.args.self.now.queued
+    c.args.self.now.noted c.args.self.now.noted) none
     (changes_sync w clauses c.requires.numbers c.args.woken refl (values_of before) []
-    c.args.self.now.requirements c.args.self.now.requirements
-    c.args.self.now.queued c.args.self.now.queued (routes_none w c.args.self.now.requirements c.args.self.now.queued))
+    c.args.self.now.requirements c.args.self.now.requirements c.args.self.now.queued c.args.self.now.queued
+    c.args.self.now.noted c.args.self.now.noted
+    (routes_none w c.args.self.now.requirements c.args.self.now.queued) (λ d h. h) (λ v s. elim s [ ]))
 
 pub returns-then-is_whole_at-clause-trail : goal.returns-then-is_whole_at-clause-trail
 returns-then-is_whole_at-clause-trail g c =
@@ -49,12 +50,23 @@ returns-clause-synced g c =
     subst (λ ds. Routes w (variables_of ds) c.route_all.new.requirements c.route_all-2.new.requirements
     c.route_all.new.queued c.route_all-2.new.queued)
     (take_rest c.args.floor c.args.trail.now) c.in_ok-route_all-2.ensures.ok in
+    let first_noted : NotesConditions w (variables_of before) c.route_all.new.noted =
+    subst (λ ds. NotesConditions w (variables_of ds) c.route_all.new.noted)
+    (take_rest c.args.floor c.deref-2.result.now ∙ ap (drop c.args.floor) c.deref-2.ensures.value)
+    c.in_ok-route_all.ensures.noted in
+    let second_noted : NotesConditions w (variables_of new) c.route_all-2.new.noted =
+    subst (λ ds. NotesConditions w (variables_of ds) c.route_all-2.new.noted)
+    (take_rest c.args.floor c.args.trail.now) c.in_ok-route_all-2.ensures.noted in
     always_ok _ c.copy_behind.result
     (changes_sync w clauses c.requires.numbers c.args.woken (ap (take c.args.woken) c.deref.ensures.value)
     (values_of c.args.self.now.trail.items) (variables_of before ++ variables_of new)
     c.args.self.now.requirements c.route_all-2.new.requirements c.args.self.now.queued c.route_all-2.new.queued
+    c.args.self.now.noted c.route_all-2.new.noted
     (routes_both w (variables_of before) (variables_of new) c.args.self.now.requirements c.route_all.new.requirements
-    c.route_all-2.new.requirements c.args.self.now.queued c.route_all.new.queued c.route_all-2.new.queued first second))
+    c.route_all-2.new.requirements c.args.self.now.queued c.route_all.new.queued c.route_all-2.new.queued first second)
+    (λ d h. c.route_all-2.ensures.kept d (c.route_all.ensures.kept d h))
+    (notes_both w (variables_of before) (variables_of new) c.route_all.new.noted c.route_all-2.new.noted
+    first_noted c.route_all-2.ensures.kept second_noted))
 
 pub returns-in_err-route_all-clause-others : goal.returns-in_err-route_all-clause-others
 returns-in_err-route_all-clause-others g c =

@@ -8,11 +8,12 @@ pub returns-clause-synced : goal.returns-clause-synced
 returns-clause-synced g c =
     let ix = c.args.self.now.index in
     let now = values_in c.args.map.now in
-    always_ok _ c.copy_behind.result (λ woken routed. subst (λ ts. SyncsTo ix.clauses.items ix.by_parent ix.by_condition
+    always_ok _ c.copy_behind.result (λ woken routed. subst (λ ts. SyncsTo ix.clauses.items ix.by_parent ix.conditions
     (listing c.args.self.now.occurrences) woken true
     (values_of c.args.self.now.trail.items) now routed c.args.self.now.requirements ts c.args.self.now.queued
-    c.wake_from.new.queued) (sym c.forget_everything.ensures)
-    (anew_sync ix.clauses.items ix.by_parent ix.by_condition (listing c.args.self.now.occurrences)
+    c.wake_from.new.queued c.args.self.now.noted c.args.self.now.noted) (sym c.forget_everything.ensures)
+    (anew_sync ix.clauses.items ix.by_parent ix.conditions (listing c.args.self.now.occurrences)
     woken (values_of c.args.self.now.trail.items) now routed c.args.self.now.requirements c.args.self.now.queued
-    c.wake_from.new.queued (subst (λ cs. AllWokenFrom 0 cs now c.wake_from.new.queued) c.as_slice.ensures.value
+    c.wake_from.new.queued c.args.self.now.noted
+    (subst (λ cs. AllWokenFrom 0 cs now c.wake_from.new.queued) c.as_slice.ensures.value
     c.in_ok-wake_from.ensures.woken)))

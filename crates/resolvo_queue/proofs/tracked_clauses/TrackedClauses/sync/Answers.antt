@@ -1,4 +1,4 @@
-use Rattle.std.proofs.Common.{drop, ◌++◌, true}
+use Rattle.std.proofs.Common.{drop, ◌++◌}
 use Rattle.std.proofs.lemmas.Result.{on_ok_weaker}
 use Rattle.resolvo_queue.proofs.Words.{variables_of}
 use Rattle.resolvo_queue.proofs.tracked_clauses.TrackedClauses.sync.Goals as goal
