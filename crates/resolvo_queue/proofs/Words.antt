@@ -15,13 +15,14 @@ pub use Rattle.providers.specs.declared.requirement.Requirement.TheVariants.{Sin
 pub use Rattle.resolvo_queue.specs.Falsified.{comes_first, Covers, FindsBelow, FindsFirst, is_falsified_in, refs_of}
 pub use Rattle.resolvo_queue.specs.Members.{here, Stands, there}
 pub use Rattle.resolvo_queue.specs.Occurrences.{GrowsWith, HasAll, is_listed, Listed, listing, Reading, times}
-pub use Rattle.resolvo_queue.specs.Parts.{AreCold, AreEntered, ArePlaced, AreWoken, clauses_at, clauses_in, ColdLack}
+pub use Rattle.resolvo_queue.specs.Parts.{AreCold, ArePlaced, AreWoken, clauses_at, clauses_in, ColdLack}
 pub use Rattle.resolvo_queue.specs.Parts.{forgotten, FoundByAll, fresh, GainsNumber, GainsRecord, GrowsBy, HasNoPlace}
-pub use Rattle.resolvo_queue.specs.Parts.{HaveLists, HaveNumbers, heated, is_empty_queue, IsCounted, IsEntered}
-pub use Rattle.resolvo_queue.specs.Parts.{IsOfClause, IsPlaceOf, IsQueued, IsWoken, KeepsNumbers, known_at, known_of}
-pub use Rattle.resolvo_queue.specs.Parts.{list_in, LosesOnly, names_at, numbers_under, owed_of, OwesSame, Queued}
-pub use Rattle.resolvo_queue.specs.Parts.{Record, record_seen, rows_at, SameFound, set_of, updated_at, walk_of, walked}
-pub use Rattle.resolvo_queue.specs.Parts.{AreWokenUnder, HasCondition, KeepsItems, with_clause}
+pub use Rattle.resolvo_queue.specs.Parts.{HaveNumbers, heated, is_empty_queue, IsCounted, IsOfClause, IsPlaceOf}
+pub use Rattle.resolvo_queue.specs.Parts.{IsQueued, IsWoken, known_at, known_of, LosesOnly, names_at, owed_of, OwesSame}
+pub use Rattle.resolvo_queue.specs.Parts.{Queued, Record, record_seen, rows_at, SameFound, set_of, updated_at, walk_of}
+pub use Rattle.resolvo_queue.specs.Parts.{walked, AreWokenUnder, HasCondition, KeepsItems, with_clause}
+pub use Rattle.resolvo_queue.specs.Parts.ByName.{AreBehind, AreEntered, at_place, further, HaveEntries, IsEntered}
+pub use Rattle.resolvo_queue.specs.Parts.ByName.{IsFrom, KeepsNumbers, StandsUnder}
 pub use Rattle.resolvo_queue.specs.Parts.UnderConditions.{AreChained, IsNewestBelow, newest_at, Renews}
 pub use Rattle.resolvo_queue.specs.Parts.Tracking.{BeginFirst, Gains, GainsClauses, HasNoClause, Heats, IsAsBefore}
 pub use Rattle.resolvo_queue.specs.Parts.Tracking.{IsFirstOf, IsInOrder, Registers, Tracking, tracking_of}
@@ -58,6 +59,7 @@ pub use Rattle.resolvo_queue.specs.Scan.First.{position_at, position_in}
 pub use Rattle.resolvo_queue.specs.Scan.Positions.{has, is_after, IsBefore, IsNextBehind, position_cmp, same_position}
 pub use Rattle.resolvo_queue.specs.WalkCounts.{changed_from, HasNoneOf, is_known, owed, owed_in, OwesFirst, record_of}
 pub use Rattle.resolvo_queue.specs.WalkCounts.{walks, walks_in, walks_of, WalksOnce}
+pub use Rattle.resolvo_queue.specs.declared.clauses_by_name.NameEntry.{NameEntry}
 pub use Rattle.resolvo_queue.specs.declared.clause_index.ClauseIndex.{ClauseIndex}
 pub use Rattle.resolvo_queue.specs.declared.group.Group.TheVariants.{OfAllParents, OfParent}
 pub use Rattle.resolvo_queue.specs.declared.offer.Candidate.{Candidate}

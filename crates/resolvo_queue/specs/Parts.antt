@@ -1,9 +1,10 @@
--- What a queue keeps, part by part: names, numbers under names and in lists, what is queued, and records.
+-- What a queue keeps, part by part: names, numbers in lists, what is queued, and records.
+pub mod ByName
 pub mod Tracking
 pub mod UnderConditions
 use Rattle.resolvo_queue.specs.declared.requirements.Walk.TheVariants as Kind
-use Rattle.std.specs.Prelude.{◌≡◌, ◌≢◌, ℕ, Bool, false, List, [], All, Some, slice_get, slice_index_or, ◌⊎◌, ◌<◌, true}
-use Rattle.std.specs.Prelude.{length, Option, None, IfSome, if◌then◌else◌, zero, suc, ◌+◌, is_some, ◌∷◌, ◌++◌, ◌≤◌}
+use Rattle.std.specs.Prelude.{◌≡◌, ◌≢◌, ℕ, Bool, false, List, [], All, Some, slice_get, slice_index_or, ◌⊎◌, true}
+use Rattle.std.specs.Prelude.{length, Option, None, if◌then◌else◌, zero, suc, ◌+◌, is_some, ◌∷◌, ◌++◌, ◌≤◌}
 use Rattle.resolvo_queue.specs.Types.{Frontier, known_true, Lit, lookup, Position, Requirement, same_requirement}
 use Rattle.resolvo_queue.specs.Types.{TrackedClause, Values, variable_of}
 use Rattle.resolvo_queue.specs.Rows.ByVariable.{list_at}
@@ -28,39 +29,6 @@ AreCold hot names clauses = (n : ℕ) (c : TrackedClause) → slice_get clauses 
 abbrev pub ColdLack : {N : Type 0} → N → List (List N) → List TrackedClause → Type 0
 ColdLack name names clauses = (n : ℕ) (c : TrackedClause) → slice_get clauses n ≡ Some c → c.is_hot ≡ false →
     All (λ m. m ≢ name) (names_at names n)
-
--- ---- numbers by the names; N are the names, P the maps from names to places
-
--- lists of numbers, and where the list of a name stands
-pub record ByName (P : Type 0) : Type 0 where
-  pub places : P
-  pub lists : List (List ℕ)
-
--- the list at a place; without a place there is none
-abbrev pub list_in : List (List ℕ) → Option ℕ → List ℕ
-list_in lists None = []
-list_in lists (Some place) = list_at lists place
-
--- the numbers under a name
-abbrev pub numbers_under : {N P : Type 0} → (P → N → Option ℕ) → ByName P → N → List ℕ
-numbers_under value_at b name = list_in b.lists (value_at b.places name)
-
--- each place is that of a list
-abbrev pub HaveLists : {N X : Type 0} → (N → Option ℕ) → List X → Type 0
-HaveLists {N} places lists = (name : N) → IfSome (places name) (λ place. place < length lists)
-
--- no number left a name
-abbrev pub KeepsNumbers : {N : Type 0} → (old new : N → List ℕ) → Type 0
-KeepsNumbers {N} old new = (name : N) (n : ℕ) → Stands n (old name) → Stands n (new name)
-
--- the number stands under the name, or no map can hold the name
-abbrev pub IsEntered : {N : Type 0} → (N → Bool) → (N → List ℕ) → ℕ → N → Type 0
-IsEntered is_too_large numbers n name = (is_too_large name ≡ true) ⊎ Stands n (numbers name)
-
--- each clause's number stands under its names
-abbrev pub AreEntered : {N : Type 0} → (N → Bool) → (N → List ℕ) → List (List N) → Type 0
-AreEntered {N} is_too_large numbers names =
-    (n : ℕ) (name : N) → Stands name (names_at names n) → IsEntered is_too_large numbers n name
 
 -- ---- how a clause comes to the lists by which it is found
 

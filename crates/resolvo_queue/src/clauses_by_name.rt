@@ -1,8 +1,10 @@
 //! Clauses found by the names of their packages.
-ghost use Rattle.std.specs.Prelude.{◌≡◌, ◌↔◌, ◌-◌, true, [], Ok, Some, None, length, slice_get, IsTrue, OnOk, IfOk};
-ghost use Rattle.std.specs.Prelude.{IfErr};
-ghost use Rattle.resolvo_queue.specs.Types.{OutOfMemory, SameValues};
-ghost use Rattle.resolvo_queue.specs.Parts.{IsEntered, KeepsNumbers, numbers_under};
+//!
+//! The entries of all names lie in one vector, and each leads to the one before it under its name. So a name takes no
+//! memory of its own, and a clause takes the same for each of its names.
+ghost use Rattle.std.specs.Prelude.{◌≡◌, ◌<◌, Some, None, slice_get, IsTrue, IfSome, OnOk, IfErr};
+ghost use Rattle.resolvo_queue.specs.Types.{OutOfMemory};
+ghost use Rattle.resolvo_queue.specs.Parts.ByName.{IsEntered, IsFrom, KeepsNumbers, StandsUnder};
 ghost use Rattle.resolvo_queue.specs.Members.{Stands};
 
 use id_maps::{IdMap, Slot, SolverId};
@@ -10,53 +12,66 @@ use std::alloc::Allocator;
 use std::marker::Model;
 use typed_ids::StoreError;
 
+/// The number of a clause, and the place of the entry before it under the same name, if there is one.
+#[derive(Clone, Copy)]
+pub(crate) struct NameEntry {
+    pub(crate) number: u32,
+    pub(crate) earlier: Option<u32>,
+}
+
 /// For each name the numbers of the clauses that have it. A name that no map can hold has none.
 #[derive(Drop)]
 pub(crate) struct ClausesByName<N: SolverId<A>, A: Allocator + Copy> {
-    /// Where each name's list stands.
-    places: N::Slots,
-    lists: Vec<Vec<u32, A>, A>,
+    /// Where each name's newest entry stands.
+    newest: N::Slots,
+    entries: Vec<NameEntry, A>,
 }
 
 impl<N: SolverId<A>, A: Allocator + Copy> Model for ClausesByName<N, A> {
-    ghost use Rattle.std.specs.Prelude.{map};
-    ghost use Rattle.resolvo_queue.specs.Parts.{ByName, HaveLists};
+    ghost use Rattle.resolvo_queue.specs.Parts.ByName.{AreBehind, ByName, HaveEntries};
 
     ghost Value = { ByName N.Slots };
 
-    ghost view = { λ b. record { places = b.places; lists = map (λ list. list.items) b.lists.items } };
+    ghost view = { λ b. record { newest = b.newest; entries = b.entries.items } };
 
-    ghost invariant = { λ b. HaveLists (N.Slots.value_at b.places) b.lists.items };
+    ghost invariant = { λ b. HaveEntries (N.Slots.value_at b.newest) b.entries.items × AreBehind b.entries.items };
 }
 
 impl<N: SolverId<A>, A: Allocator + Copy> ClausesByName<N, A> {
     /// No numbers. Takes no memory.
     pub(crate) fn new(alloc: A) -> Self
-        ensures { (name : N) → numbers_under N.Slots.value_at result name ≡ [] }
+        ensures { (name : N) → N.Slots.value_at result.newest name ≡ None }
     {
         ClausesByName {
-            places: <N::Slots as IdMap<N, Slot, A>>::new(alloc),
-            lists: Vec::new(alloc),
+            newest: <N::Slots as IdMap<N, Slot, A>>::new(alloc),
+            entries: Vec::new(alloc),
         }
     }
 
-    /// The numbers under a name: one look-up.
-    pub(crate) fn at(&self, name: N) -> &[u32]
-        ensures numbers { result.now ≡ numbers_under N.Slots.value_at self.now name }
-        ensures too_large { IsTrue (N.Slots.is_too_large name) → result.now ≡ [] }
+    /// The place of the name's newest entry, if it has one: one look-up.
+    pub(crate) fn newest(&self, name: N) -> Option<u32>
+        ensures place { result ≡ N.Slots.value_at self.now.newest name }
+        ensures too_large { IsTrue (N.Slots.is_too_large name) → result ≡ None }
     {
-        match self.places.get(name).number() {
-            Some(place) => self.lists[place as usize].as_slice(),
-            None => &[],
+        self.newest.get(name).number()
+    }
+
+    /// The entry at a place, if there is one.
+    pub(crate) fn entry(&self, place: u32) -> Option<NameEntry>
+        ensures entry { result ≡ slice_get self.now.entries place }
+        ensures behind { IfSome result (λ e. IfSome e.earlier (λ earlier. earlier < place)) }
+    {
+        match self.entries.get(place as usize) {
+            Some(entry) => Some(*entry),
+            None => None,
         }
     }
 
     /// Puts a number under each of some names: one look-up for each. Refused, it may stand under some of them.
     pub(crate) fn enter(&mut self, names: &[N], number: u32) -> Result<(), StoreError>
-        ensures kept { KeepsNumbers (numbers_under N.Slots.value_at self.old)
-            (numbers_under N.Slots.value_at self.new) }
+        ensures kept { KeepsNumbers (StandsUnder N.Slots.value_at self.old) (StandsUnder N.Slots.value_at self.new) }
         ensures entered { OnOk result ((name : N) → Stands name names.now →
-            IsEntered N.Slots.is_too_large (numbers_under N.Slots.value_at self.new) number name) }
+            IsEntered N.Slots.is_too_large (StandsUnder N.Slots.value_at self.new) number name) }
         ensures memory { IfErr result (λ e. e ≡ OutOfMemory) }
     {
         for name in names {
@@ -65,68 +80,42 @@ impl<N: SolverId<A>, A: Allocator + Copy> ClausesByName<N, A> {
         Ok(())
     }
 
-    /// Puts a number under a name, unless it is the last there: a clause may have a name more than once.
+    /// Puts a number under a name, unless it is the newest there: a clause may have a name more than once. There is no
+    /// room for more than 2^32 entries.
     fn put(&mut self, name: N, number: u32) -> Result<(), StoreError>
-        ensures kept { KeepsNumbers (numbers_under N.Slots.value_at self.old)
-            (numbers_under N.Slots.value_at self.new) }
-        ensures entered { OnOk result (IsEntered N.Slots.is_too_large (numbers_under N.Slots.value_at self.new) number
+        ensures kept { KeepsNumbers (StandsUnder N.Slots.value_at self.old) (StandsUnder N.Slots.value_at self.new) }
+        ensures entered { OnOk result (IsEntered N.Slots.is_too_large (StandsUnder N.Slots.value_at self.new) number
             name) }
         ensures memory { IfErr result (λ e. e ≡ OutOfMemory) }
     {
-        let place = match self.reach(name)? {
-            Some(place) => place,
-            None => return Ok(()),
-        };
-        if is_last(self.lists[place].as_slice(), number) {
+        let earlier = self.newest(name);
+        if self.has_at(earlier, number) {
             return Ok(());
         }
-        self.lists[place].push(number)?;
-        Ok(())
-    }
-
-    /// The place of the name's list, which comes if there was none. A name that no map can hold has no place.
-    fn reach(&mut self, name: N) -> Result<Option<usize>, StoreError>
-        ensures same { SameValues (numbers_under N.Slots.value_at self.old) (numbers_under N.Slots.value_at self.new) }
-        ensures place { IfOk result (λ place. N.Slots.value_at self.new.places name ≡ place) }
-        ensures none { result ≡ Ok None → N.Slots.is_too_large name ≡ true }
-        ensures memory { IfErr result (λ e. e ≡ OutOfMemory) }
-    {
-        match self.places.get(name).number() {
-            Some(place) => Ok(Some(place as usize)),
-            None => self.add(name),
-        }
-    }
-
-    /// Gives a name a list that has none, unless no map can hold the name. There is no room for more than 2^32 lists.
-    fn add(&mut self, name: N) -> Result<Option<usize>, StoreError>
-        requires { N.Slots.value_at self.old.places name ≡ None }
-        ensures same { SameValues (numbers_under N.Slots.value_at self.old) (numbers_under N.Slots.value_at self.new) }
-        ensures place { IfOk result (λ place. N.Slots.value_at self.new.places name ≡ place) }
-        ensures none { result ≡ Ok None → N.Slots.is_too_large name ≡ true }
-        ensures memory { IfErr result (λ e. e ≡ OutOfMemory) }
-    {
-        let place = self.lists.len();
+        let place = self.entries.len();
         if place > u32::MAX as usize {
             return Err(StoreError::OutOfMemory);
         }
-        let alloc = *self.lists.allocator();
-        self.lists.reserve(1)?;
-        match self.places.set(name, Slot::new(Some(place as u32))) {
+        self.entries.reserve(1)?;
+        match self.newest.set(name, Slot::new(Some(place as u32))) {
             Ok(()) => {}
-            Err(StoreError::IdSpace) => return Ok(None),
+            Err(StoreError::IdSpace) => return Ok(()),
             Err(_) => return Err(StoreError::OutOfMemory),
         }
-        self.lists.push_reserved(Vec::new(alloc));
-        Ok(Some(place))
+        self.entries.push_reserved(NameEntry { number, earlier });
+        Ok(())
     }
-}
 
-/// Whether a number is the last of some.
-fn is_last(numbers: &[u32], number: u32) -> bool
-    ensures { IsTrue result ↔ (slice_get numbers.now (length numbers.now - 1) ≡ Some number) }
-{
-    match numbers.last() {
-        Some(last) => *last == number,
-        None => false,
+    /// Whether there is a place, and its entry has the number.
+    fn has_at(&self, place: Option<u32>, number: u32) -> bool
+        ensures { IsTrue result → IsFrom self.now.entries number place }
+    {
+        match place {
+            Some(place) => match self.entry(place) {
+                Some(entry) => entry.number == number,
+                None => false,
+            },
+            None => false,
+        }
     }
 }

@@ -62,7 +62,7 @@ pub struct DecideQueue<D: DependencyProvider> {
 
 impl<D: DependencyProvider> Model for DecideQueue<D> {
     ghost use Rattle.std.specs.Prelude.{map};
-    ghost use Rattle.resolvo_queue.specs.Parts.{AreEntered, numbers_under};
+    ghost use Rattle.resolvo_queue.specs.Parts.ByName.{AreEntered, StandsUnder};
     ghost use Rattle.resolvo_queue.specs.Queue.{IsWellFormed, Queue, queue_of};
 
     ghost Value = { Queue D.NameId D.NameId.Set };
@@ -71,7 +71,7 @@ impl<D: DependencyProvider> Model for DecideQueue<D> {
 
     ghost invariant = { λ q. IsWellFormed D.NameId.Set.has
         (queue_of q.tracked q.names.items q.hot_names q.woken)
-        × AreEntered D.NameId.Slots.is_too_large (numbers_under D.NameId.Slots.value_at q.by_name) q.names.items };
+        × AreEntered D.NameId.Slots.is_too_large (StandsUnder D.NameId.Slots.value_at q.by_name) q.names.items };
 }
 
 impl<D: DependencyProvider> DecideQueue<D> {
@@ -210,7 +210,7 @@ impl<D: DependencyProvider> DecideQueue<D> {
         if self.hot_names.contains(name) {
             return Ok(());
         }
-        self.tracked.heat_clauses(self.by_name.at(name))
+        self.tracked.heat_clauses(&self.by_name, name)
     }
 
     /// Brings the queue up to date with a trail, whose values the map has. The trail is that of the last accepted call

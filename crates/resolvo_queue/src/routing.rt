@@ -112,8 +112,8 @@ fn note_conditions<A: Allocator + Copy>(
     Ok(())
 }
 
-/// Routes one variable: wakes the clauses of which it is the parent, notes the conditions in which it stands, and
-/// forgets what is known of the requirements that have it in a row.
+/// Wakes the clauses of which the variable is the parent. Notes the conditions in which it stands. Forgets what is
+/// known of the requirements that have it in a row.
 fn route<A: Allocator + Copy>(
     queued: &mut QueuedClauses<A>,
     noted: &mut NotedConditions<A>,

@@ -1,17 +1,16 @@
 -- Clauses that become hot: nothing else changes, and what always holds is kept.
-use Rattle.std.proofs.Common.{◌≡◌, ℕ, zero, suc, ◌+◌, ◌<◌, ◌≤◌, ◌^◌, Bool, true, false, cond, eqb, ◌⊎◌, inl, inr}
-use Rattle.std.proofs.Common.{List, [], ◌∷◌, length, map, set, get_or, take, Option, Some, None, MatchOption}
+use Rattle.std.proofs.Common.{◌≡◌, ℕ, zero, suc, ◌<◌, ◌≤◌, ◌^◌, Bool, true, false, cond, eqb, ◌⊎◌, inl, inr}
+use Rattle.std.proofs.Common.{List, [], ◌∷◌, length, map, set, get_or, Option, Some, None, MatchOption}
 use Rattle.std.proofs.Common.{Result, Ok, Err, OnOk, OnErr, slice_get, sym, ap, refl, ◌∙◌, subst, arith}
-use Rattle.std.proofs.lemmas.List.{take_more}
 use Rattle.std.proofs.lemmas.Option.{slice_get_within}
 use Rattle.resolvo_queue.proofs.Words.{AreChained, AreLocated, at_position, clause_of, clauses_at, first_from}
-use Rattle.resolvo_queue.proofs.Words.{GrowsBy, has}
-use Rattle.resolvo_queue.proofs.Words.{HasNoClause, heated, Heats, IsFirstOf, IsInOrder, IsNewestBelow, IsOfClause}
-use Rattle.resolvo_queue.proofs.Words.{IsPlaceOf, list_at, newest_at, Position, Queued, same_position, Stands}
-use Rattle.resolvo_queue.proofs.Words.{TrackedClause, Tracking}
+use Rattle.resolvo_queue.proofs.Words.{GrowsBy, has, HasNoClause, heated, Heats, IsFirstOf, IsFrom, IsInOrder}
+use Rattle.resolvo_queue.proofs.Words.{IsNewestBelow, IsOfClause, IsPlaceOf, list_at, NameEntry, newest_at, Position}
+use Rattle.resolvo_queue.proofs.Words.{Queued, same_position, Stands, TrackedClause, Tracking}
 use Rattle.resolvo_queue.proofs.Syncs.HotClause.{heated_synced, set_or_elsewhere}
 use Rattle.resolvo_queue.proofs.Syncs.Queued.{added_grows, queued_stays, read_at}
-use Rattle.resolvo_queue.proofs.Lists.{same_some, stands_cases}
+use Rattle.resolvo_queue.proofs.Lists.{same_some}
+use Rattle.resolvo_queue.proofs.Clauses.ByName.{this_or_before}
 use Rattle.resolvo_queue.proofs.Clauses.Counts.{own_number}
 
 -- ---- clauses that are the same but for their heat
@@ -264,29 +263,28 @@ hot_read cs n c c' (Err x) hot = tt
 -- ---- one clause after another
 
 -- what was hot is
-still_hot : (old now : Tracking) → Heats old now → (n : ℕ) →
-    ((d : TrackedClause) → slice_get old.clauses n ≡ Some d → d.is_hot ≡ true) →
-    (c : TrackedClause) → slice_get now.clauses n ≡ Some c → c.is_hot ≡ true
-still_hot old now heats n hot c is = go c.is_hot refl
+still_hot : (old now : Tracking) → Heats old now → (n : ℕ) (c : TrackedClause) →
+    (slice_get old.clauses n ≡ Some c → c.is_hot ≡ true) → slice_get now.clauses n ≡ Some c → c.is_hot ≡ true
+still_hot old now heats n c hot is = go c.is_hot refl
   where
     go : (b : Bool) → c.is_hot ≡ b → c.is_hot ≡ true
     go true e = e
-    go false e = hot c (heats.cold n c is e)
+    go false e = hot (heats.cold n c is e)
 
-pub hot_more : (old now : Tracking) → Heats old now → (numbers : List ℕ) (i : ℕ) → i < length numbers →
-    ((n : ℕ) (c : TrackedClause) → Stands n (take i numbers) → slice_get old.clauses n ≡ Some c → c.is_hot ≡ true) →
-    ((c : TrackedClause) → slice_get now.clauses (get_or numbers i 0) ≡ Some c → c.is_hot ≡ true) →
-    (n : ℕ) (c : TrackedClause) → Stands n (take (i + 1) numbers) → slice_get now.clauses n ≡ Some c → c.is_hot ≡ true
-hot_more old now heats numbers i within before this n c s is =
-    elim (stands_cases (take i numbers) (get_or numbers i 0) n (subst (Stands n) (take_more numbers i 0 within) s)) [
-      | inl h ↦ still_hot old now heats n (λ d at. before n d h at) c is
-      | inr e ↦ this c (ap (slice_get now.clauses) (sym e) ∙ is)
+-- from the entry that was looked at, the others come next
+pub hot_or_further : (old now : Tracking) → Heats old now → (entries : List NameEntry) (place : ℕ) (e : NameEntry) →
+    slice_get entries place ≡ Some e → (next : Option ℕ) → next ≡ Some place →
+    ((c : TrackedClause) → slice_get now.clauses e.number ≡ Some c → c.is_hot ≡ true) → (n : ℕ) (c : TrackedClause) →
+    IsFrom entries n next ⊎ (slice_get old.clauses n ≡ Some c → c.is_hot ≡ true) →
+    IsFrom entries n e.earlier ⊎ (slice_get now.clauses n ≡ Some c → c.is_hot ≡ true)
+hot_or_further old now heats entries place e at next is this n c (inl from) =
+    elim (this_or_before entries place n e at is from) [
+      | inl own ↦ inr (λ there. this c (ap (slice_get now.clauses) (sym own) ∙ there))
+      | inr rest ↦ inl rest
     ]
+hot_or_further old now heats entries place e at next is this n c (inr hot) = inr (still_hot old now heats n c hot)
 
 -- a number past the end
 pub hot_past : (cs : List TrackedClause) (n : ℕ) → length cs ≤ n → (c : TrackedClause) →
     slice_get cs n ≡ Some c → c.is_hot ≡ true
 hot_past cs n past c is = absurd (let h : n < length cs = slice_get_within cs n c is in omega (arith, h, past))
-
-pub none_within : {X P : Type 0} (xs : List X) (i : ℕ) → i < length xs → xs ≡ [] → P
-none_within xs i within none = absurd (let h : i < 0 = subst (λ l. i < length l) none within in omega (arith, h))

@@ -1,5 +1,5 @@
 use Rattle.std.proofs.Common.{subst, take_all}
-use Rattle.resolvo_queue.proofs.Words.{IsEntered, numbers_under, Stands}
+use Rattle.resolvo_queue.proofs.Words.{IsEntered, StandsUnder, Stands}
 use Rattle.resolvo_queue.proofs.Clauses.ByName.{entered_more, keeps_both}
 use Rattle.resolvo_queue.proofs.clauses_by_name.ClausesByName.enter.Goals as goal
 
@@ -11,13 +11,13 @@ loop-name-init g c = record {
 
 pub returns-in_err-put-clause-kept : goal.returns-in_err-put-clause-kept
 returns-in_err-put-clause-kept g c =
-    let under = numbers_under g.N.Slots.IdMap.value_at in
+    let under = StandsUnder g.N.Slots.IdMap.value_at in
     keeps_both (under c.args.self.now) (under c.loop-name.self)
     (under c.put.new.self) c.loop-name.invariant.kept c.put.ensures.kept
 
 pub loop-name-preserved : goal.loop-name-preserved
 loop-name-preserved g c =
-    let under = numbers_under g.N.Slots.IdMap.value_at in
+    let under = StandsUnder g.N.Slots.IdMap.value_at in
     record {
       kept = keeps_both (under c.args.self.now) (under c.loop-name.self)
           (under c.put.new.self) c.loop-name.invariant.kept c.put.ensures.kept;
@@ -32,5 +32,5 @@ returns-clause-kept g c = c.loop-name.invariant.kept
 
 pub returns-clause-entered : goal.returns-clause-entered
 returns-clause-entered g c = subst (λ names. (name : _) → Stands name names →
-    IsEntered g.N.Slots.IdMap.is_too_large (numbers_under g.N.Slots.IdMap.value_at c.loop-name.self) c.args.number name)
+    IsEntered g.N.Slots.IdMap.is_too_large (StandsUnder g.N.Slots.IdMap.value_at c.loop-name.self) c.args.number name)
     (take_all c.loop-name.name-index c.args.names.now c.loop-name-test.false) c.loop-name.invariant.entered

@@ -1,6 +1,6 @@
 use Rattle.std.proofs.Common.{sym, ap, refl, subst, ◌∙◌}
 use Rattle.std.proofs.lemmas.Result.{on_ok_weaker}
-use Rattle.resolvo_queue.proofs.Words.{numbers_under, Queue, queue_of, Stands, StandsOn}
+use Rattle.resolvo_queue.proofs.Words.{Queue, queue_of, StandsOn, StandsUnder}
 use Rattle.resolvo_queue.proofs.Clauses.Heated.{kept_heated, stands_heated}
 use Rattle.resolvo_queue.proofs.Clauses.ByName.{entered_lacks}
 use Rattle.resolvo_queue.proofs.decide_queue.DecideQueue.heat.Goals as goal
@@ -34,13 +34,13 @@ returns-clause-lacks g c =
     let after : Queue g.row.D-NameId.Denot g.row.D-NameId-Set.Denot =
     queue_of c.heat_clauses.new.self inside.names.items inside.hot_names inside.woken in
     on_ok_weaker c.heat_clauses.result (λ hot fits. entered_lacks g.D.NameId.Slots.IdMap.is_too_large
-    (numbers_under g.D.NameId.Slots.IdMap.value_at inside.by_name) after.names after.inside.clauses c.args.name
-    c.self.invariant.1 (sym (g.met.D.NameId.SolverId.hold_alike c.args.name).1 ∙ fits) (λ n d s is.
-    hot n d (subst (Stands n) (sym c.at.ensures.numbers) s) is)) c.heat_clauses.ensures.hot
+    (StandsUnder g.D.NameId.Slots.IdMap.value_at inside.by_name) after.names after.inside.clauses c.args.name
+    c.self.invariant.1 (sym (g.met.D.NameId.SolverId.hold_alike c.args.name).1 ∙ fits) hot)
+    c.heat_clauses.ensures.hot
 
 pub returns-clause-fits : goal.returns-clause-fits
-returns-clause-fits g c = λ large. c.heat_clauses.ensures.none
-    (c.at.ensures.too_large (sym (g.met.D.NameId.SolverId.hold_alike c.args.name).1 ∙ large))
+returns-clause-fits g c =
+    λ large. c.heat_clauses.ensures.too_large (sym (g.met.D.NameId.SolverId.hold_alike c.args.name).1 ∙ large)
 
 pub returns-clause-records : goal.returns-clause-records
 returns-clause-records g c = c.heat_clauses.ensures.heats.requirements ∙

@@ -1,5 +1,5 @@
 use Rattle.std.proofs.Common.{ap, map, refl}
-use Rattle.resolvo_queue.proofs.Words.{clause_of, numbers_under, Queue, queue_of}
+use Rattle.resolvo_queue.proofs.Words.{clause_of, StandsUnder, Queue, queue_of}
 use Rattle.resolvo_queue.proofs.Clauses.ByName.{entered_none}
 use Rattle.resolvo_queue.proofs.Clauses.New.{kept_new, stands_new}
 use Rattle.resolvo_queue.proofs.decide_queue.DecideQueue.new.Goals as goal
@@ -11,7 +11,7 @@ invariant_of-result g c =
     let names = c.new-2.ensures in (
       kept_new g.D.NameId.Set.IdSet.has made c.new.ensures.clauses c.new.ensures.by_parent c.new.ensures.newest_under
           c.new.ensures.queued names refl,
-      entered_none g.D.NameId.Slots.IdMap.is_too_large (numbers_under g.D.NameId.Slots.IdMap.value_at c.new-3.result)
+      entered_none g.D.NameId.Slots.IdMap.is_too_large (StandsUnder g.D.NameId.Slots.IdMap.value_at c.new-3.result)
           c.new-2.result.items names,
     )
 

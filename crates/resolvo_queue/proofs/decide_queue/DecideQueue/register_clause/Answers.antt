@@ -2,7 +2,7 @@ use Rattle.std.proofs.lemmas.Grind.{common_steps}
 use Rattle.std.proofs.Common.{◌≡◌, ◌⊎◌, arith, ◌<◌, ◌^◌, ◌-◌, [], ◌∷◌, ◌++◌}
 use Rattle.std.proofs.Common.{map, length, sym, ap, refl, subst, ◌∙◌}
 use Rattle.std.proofs.lemmas.List.{length-map}
-use Rattle.resolvo_queue.proofs.Words.{clause_of, IsEntered, IsRegistered, numbers_under, owed, owed_in, Queue}
+use Rattle.resolvo_queue.proofs.Words.{clause_of, IsEntered, IsRegistered, StandsUnder, owed, owed_in, Queue}
 use Rattle.resolvo_queue.proofs.Words.{queue_of, references, RequiresClause, StandsOn, walks}
 use Rattle.resolvo_queue.proofs.Clauses.ByName.{entered_last, entered_still}
 use Rattle.resolvo_queue.proofs.Clauses.Registration.{kept_refused, kept_registered, not_full}
@@ -22,7 +22,7 @@ overflow_cast-number g c =
 -- the names were refused
 pub invariant_of-self : goal.invariant_of-self
 invariant_of-self g c =
-    let under = numbers_under g.D.NameId.Slots.IdMap.value_at in
+    let under = StandsUnder g.D.NameId.Slots.IdMap.value_at in
     let names = c.self.inside.names.items in (
       c.self.invariant.0,
       entered_still g.D.NameId.Slots.IdMap.is_too_large (under c.self.inside.by_name) (under c.enter.new.self) names
@@ -36,7 +36,7 @@ invariant_of-self-in_err-register g c =
     queue_of inside.tracked inside.names.items inside.hot_names inside.woken in
     let after : Queue g.row.D-NameId.Denot g.row.D-NameId-Set.Denot =
     queue_of c.register.new.self inside.names.items inside.hot_names inside.woken in
-    let under = numbers_under g.D.NameId.Slots.IdMap.value_at in (
+    let under = StandsUnder g.D.NameId.Slots.IdMap.value_at in (
       kept_refused g.D.NameId.Set.IdSet.has before after c.in_err-register.ensures.err refl
           c.self.invariant.0 refl refl,
       entered_still g.D.NameId.Slots.IdMap.is_too_large (under inside.by_name)
@@ -68,7 +68,7 @@ invariant_of-self-2 g c =
     (ap (λ (q : Queue g.row.D-NameId.Denot g.row.D-NameId-Set.Denot). length q.clauses) (sym c.self.view_is) ∙
     length-map inside.tracked.index.clauses.items clause_of) in
     let names : after.names ≡ before.names ++ c.args.names.now ∷ [] = c.and-self-inside.ensures in
-    let under = numbers_under g.D.NameId.Slots.IdMap.value_at in
+    let under = StandsUnder g.D.NameId.Slots.IdMap.value_at in
     let is_too_large = g.D.NameId.Slots.IdMap.is_too_large in
     let number : c.len-number.result ≡ length before.names =
     c.len-number.ensures ∙ (inside.tracked.index.clauses.ok.0 ∙ sym c.self.invariant.0.names) in (
