@@ -11,6 +11,8 @@ use Rattle.watch_map.specs.ClauseList.{with_rewatched as list_rewatched}
 use Rattle.clauses.specs.declared.disjunction.Disjunction.{Disjunction}
 use Rattle.resolvo_queue.specs.Queue.{IsRegistered}
 use Rattle.resolvo_queue.proofs.Clauses.Callers.{stands_with_disjunction}
+use Rattle.resolvo_store.proofs.CandidateLists.{begins_origins, through-more}
+use Rattle.resolvo_store.proofs.Words.{BeginsWith, CameThrough}
 use Rattle.resolvo_store.proofs.Words.{AddFault, AddsEntry, bumped, Cache, can_rewatch, Clause, clause_literals}
 use Rattle.resolvo_store.proofs.Words.{Clauses, decayed, decisions_of, Entry, first_watches, floor_taken, HasTrail}
 use Rattle.resolvo_store.proofs.Words.{helper_for, IfSome, is_direct, is_helper_among, is_literal_in, is_tracked}
@@ -55,7 +57,7 @@ module _ {D N S A H Q : Type 0} {has : Q → N → Bool} {st : Store N S} {loade
     few = is.few;
     known = is.known;
     sound = sound;
-    queried = is.queried;
+    through = is.through;
     may_decide = record {
       in_step = in_step;
       stands = is.may_decide.stands;
@@ -83,19 +85,21 @@ module _ {D N S A H Q : Type 0} {has : Q → N → Bool} {st : Store N S} {loade
 
   -- after variables were asked for
   pub after_origins : {T E : Type 0} (more : List (VariableOrigin N S)) {os : List (VariableOrigin N S)}
-      (result : Result T E)
+      (result : Result T E) → BeginsWith st.origins more
       → IsSound (record st { origins = more }) → OnOk result (os ≡ more) → OnErr result (os ≡ st.origins)
       → IsConsistent has (record st { origins = os }) loaded disjunctions cache queue trail
-  after_origins more {os} result longer ok err = record {
-    few = is.few;
-    known = is.known;
-    queried = is.queried;
-    may_decide = is.may_decide;
-    sound = elim (either result ok err) [
-      | inl grown ↦ subst (λ vs. IsSound (record st { origins = vs })) (sym grown) longer
-      | inr same ↦ subst (λ vs. IsSound (record st { origins = vs })) (sym same) is.sound
-    ];
-  }
+  after_origins more {os} result begins longer ok err = elim (either result ok err) [
+    | inl grown ↦ subst (λ vs. IsConsistent has (record st { origins = vs }) loaded disjunctions cache queue trail)
+        (sym grown) (record {
+          few = is.few;
+          known = is.known;
+          through = through-more begins is.through;
+          may_decide = is.may_decide;
+          sound = longer;
+        })
+    | inr same ↦ subst (λ vs. IsConsistent has (record st { origins = vs }) loaded disjunctions cache queue trail)
+        (sym same) is
+  ]
 
   -- the list of clauses of the store, and a store of which no more is seen by its list of clauses
   abbrev clauses_now : Clauses N
@@ -111,7 +115,7 @@ module _ {D N S A H Q : Type 0} {has : Q → N → Bool} {st : Store N S} {loade
   after_change more {cs} result changed ok err = record {
     few = is.few;
     known = is.known;
-    queried = is.queried;
+    through = is.through;
     may_decide = is.may_decide;
     sound = elim (either result ok err) [
       | inl grown ↦ subst (λ ds. IsSound (with_clauses ds)) (sym grown) changed
@@ -157,7 +161,8 @@ module _ {D N S A H Q : Type 0} {has : Q → N → Bool} {st : Store N S} {loade
       same_clauses same_trackers = record {
         few = is.few;
         known = is.known;
-        queried = is.queried;
+        through = subst (λ vs. CameThrough st.provider cache vs st.loaded) (sym origins)
+            (through-more (begins_origins st.origins name (helper_for st name v)) is.through);
         may_decide = is.may_decide;
         sound = subst (λ s. IsSound s) (sym (tracked_parts st name v origins clauses trackers))
             (IsSound-tracked st is.sound lawful name v named known none new);
@@ -188,7 +193,7 @@ module _ {D N S A H Q : Type 0} {has : Q → N → Bool} {st : Store N S} {loade
   after_disjunction ls condition {ds} (Ok x) kept known more ok same = record {
     few = is.few;
     known = is.known;
-    queried = is.queried;
+    through = is.through;
     sound = subst (λ es. IsSound (record st { disjunctions = es }))
         (ap (λ es. es ++ record { literals = ls; condition = condition } ∷ []) kept ∙ sym ok)
         (IsSound-disjunction st is.sound ls condition (literals_below (length st.origins) ls known));
@@ -243,7 +248,7 @@ module _ {D N S A H Q : Type 0} {has : Q → N → Bool} {st : Store N S} {loade
         few = is.few;
         known = is.known;
         sound = is.sound;
-        queried = is.queried;
+        through = is.through;
         may_decide =
             may_ask_unchanged left stands;
       }))
@@ -290,7 +295,7 @@ module _ {D N S A H Q : Type 0} {has : Q → N → Bool} {st : Store N S} {loade
         known = All-push (λ d. knows_requirement st.provider.universe d.requirement ≡ true) st.requires one is.known
             known;
         sound = IsSound-requires st is.sound parent disjunction r known variable found kept;
-        queried = is.queried;
+        through = is.through;
         may_decide = record {
           in_step = in_step-registered trail one (map st.provider.universe.set_name (sets_of st.provider.universe r))
               registered is.may_decide.in_step;
@@ -318,7 +323,7 @@ module _ {D N S A H Q : Type 0} {has : Q → N → Bool} {st : Store N S} {loade
         few = is.few;
         known = is.known;
         sound = is.sound;
-        queried = is.queried;
+        through = is.through;
         may_decide = record {
           in_step = elim (either result ok err) [
             | inl synced ↦ in_step-synced trail synced
@@ -345,7 +350,7 @@ module _ {D N S A H Q : Type 0} {has : Q → N → Bool} {st : Store N S} {loade
         few = is.few;
         known = is.known;
         sound = IsSound-scored st is.sound scores;
-        queried = is.queried;
+        through = is.through;
         may_decide = record {
           in_step = in_step-same trail synced is.may_decide.in_step;
           stands = stands;
@@ -403,7 +408,7 @@ module _ {D N S A H Q : Type 0} {has : Q → N → Bool} {st : Store N S} {loade
         few = is.few;
         known = is.known;
         sound = IsSound-scored st is.sound (decayed numerator denominator st.scores);
-        queried = is.queried;
+        through = is.through;
         may_decide = record {
           in_step = is.may_decide.in_step;
           stands = is.may_decide.stands;
@@ -423,7 +428,7 @@ module _ {D N S A H Q : Type 0} {has : Q → N → Bool} {st : Store N S} {loade
         few = is.few;
         known = is.known;
         sound = is.sound;
-        queried = is.queried;
+        through = is.through;
         may_decide =
             may_ask_unchanged same stands;
       })

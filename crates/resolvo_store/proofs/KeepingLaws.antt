@@ -1,24 +1,23 @@
 -- Steps and runs keep what a store has: laws for those who hold a store while commands go on.
 use Rattle.std.proofs.Common.{◌≡◌, ℕ, zero, suc, ◌+◌, Bool, true, false, cond, nat_eq, List, [], ◌∷◌, ◌++◌, length}
-use Rattle.std.proofs.Common.{Option, None, Some, refl, sym, ◌∙◌, ap, subst, inl, inr}
+use Rattle.std.proofs.Common.{Option, None, Some, refl, sym, ◌∙◌, subst, inl, inr}
 use Rattle.std.specs.Prelude.{slice_get, drop, ◌||◌}
-use Rattle.std.proofs.lemmas.List.{take-append-drop}
-use Rattle.variables.proofs.InterningLemmas.{front_of_part, wholly}
 use Rattle.at_most_once.specs.AtMostOne.{with_variable}
 use Rattle.at_most_once.specs.NameTrackers.{with_tracked as trackers_with}
 use Rattle.solver_cache.proofs.CacheLemmas.{begins_same, begins_more, begins_trans}
 use Rattle.resolvo_store.proofs.Words.{adds_clause, all_candidates, AnyOf, Assign, AtMostOnce, BeginsWith, BitClause}
 use Rattle.resolvo_store.proofs.Words.{Bump, Clause, Command, Constrains, ConstrainsExcluded, ConstrainsParent, Decay}
-use Rattle.resolvo_store.proofs.Words.{Decide, Entry, Exclude, forbidding, ForbidMultiple, hands_next, Helper}
+use Rattle.resolvo_store.proofs.Words.{Decide, Entry, Exclude, forbidding, hands_next, Helper}
 use Rattle.resolvo_store.proofs.Words.{helper_for, helper_origin, is_saturate, is_tracked, Learnt, list_any, lists_of}
 use Rattle.resolvo_store.proofs.Words.{Lit, Load, load, Lock, lookup, OnlyGrows, origins_with, Outcome, outcome, Reply}
 use Rattle.resolvo_store.proofs.Words.{Requirement, Requires, Rewatch, Run, same_requirement, Saturate, Standard, Step}
 use Rattle.resolvo_store.proofs.Words.{Store, TrackedAs, Tracker, tracking, UndoLast, UndoUntil, Unpropagated, Variable}
 use Rattle.resolvo_store.proofs.Words.{VariableOrigin, variables_loaded, Watchers, with_bits, with_disjunction}
-use Rattle.resolvo_store.proofs.Words.{with_helper, with_registered, with_tracked, with_variables}
+use Rattle.resolvo_store.proofs.Words.{with_helper, with_registered, with_tracked}
 use Rattle.resolvo_store.specs.Command.{Root, Disjunction}
 use Rattle.resolvo_store.specs.Store.{Provider}
 use Rattle.resolvo_store.specs.Outcome.{with_learnt}
+use Rattle.resolvo_store.proofs.CandidateLists.{begins_origins, begins_variables, begun}
 use Rattle.resolvo_store.proofs.KnownLemmas.{IsLawful}
 use Rattle.resolvo_store.proofs.SoundSteps.{step_store, step_saturated}
 use Rattle.clauses.specs.declared.clause.Clause.TheVariants as Kind
@@ -26,10 +25,6 @@ use Rattle.clauses.specs.declared.clause.Clause.TheVariants as Kind
 -- ---- lists that begin with others
 
 module _ {X : Type 0} where
-  -- what follows the earlier list
-  pub begun : (xs ys : List X) → BeginsWith xs ys → ys ≡ xs ++ drop (length xs) ys
-  begun xs ys begins = sym (take-append-drop (length xs) ys) ∙ ap (λ (l : List X). l ++ drop (length xs) ys) begins
-
   get_front : (xs more : List X) (i : ℕ) (x : X) → slice_get xs i ≡ Some x → slice_get (xs ++ more) i ≡ Some x
   get_front [] more i x e = (let no : ◌≡◌ {A = Option X} None (Some x) = e in cc)
   get_front (y ∷ xs) more zero x e = e
@@ -95,15 +90,6 @@ module _ (t : Tracker ℕ) (h : Option ℕ) (v : ℕ) where
       by_test false = begins_helper t.helpers h
 
 module _ {N S : Type 0} where
-  begins_origins : (os : List (VariableOrigin N S)) (name : N) (h : Option ℕ) → BeginsWith os (origins_with os name h)
-  begins_origins os name None = begins_same os
-  begins_origins os name (Some h) = begins_more os (ForbidMultiple name)
-
-  begins_variables : (same : S → S → Bool) (os : List (VariableOrigin N S)) (ss : List S) →
-      BeginsWith os (with_variables same os ss)
-  begins_variables same os ss = front_of_part same os ss (with_variables same os ss)
-      (wholly same os ss (with_variables same os ss) refl)
-
   -- ---- what is kept
 
   -- a store whose lists begin with those of another, and that tracks the same

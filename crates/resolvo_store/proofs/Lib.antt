@@ -2,6 +2,7 @@ pub mod AddingLemmas
 pub mod AskingLemmas
 pub mod CallerLaws
 pub mod CandidateLaws
+pub mod CandidateLists
 pub mod CountedLemmas
 pub mod CountedScan
 pub mod ForbiddingLaws
@@ -14,6 +15,7 @@ pub mod LearningLemmas
 pub mod ListLemmas
 pub mod LiteralLaws
 pub mod LoadedInvariants
+pub mod LoadedSets
 pub mod LoadingLemmas
 pub mod MarkedLaws
 pub mod ModelLaws

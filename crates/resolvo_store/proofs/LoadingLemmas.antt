@@ -1,30 +1,23 @@
 -- Loading a requirement.
 use Rattle.std.proofs.Common.{◌≡◌, ℕ, ◌^◌, ◌<◌, Bool, true, false, not, arith, ◌||◌, List, [], ◌∷◌, length, Option}
 use Rattle.std.proofs.Common.{None, Some, Result, Ok, Err, ◌∙◌, ap, subst, sym, leb, refl, true≢false}
-use Rattle.std.specs.Prelude.{◌&&◌, All, option_map}
+use Rattle.std.specs.Prelude.{◌&&◌, All, option_map, OnErr}
+use Rattle.std.specs.Result.{is_err}
 use Rattle.std.proofs.Math.Bool.{or-true, and-false}
 use Rattle.std.proofs.lemmas.Bool.Decides.{nat_tests}
 use Rattle.std.proofs.lemmas.List.Elements.{All-head, All-tail}
-use Rattle.resolvo_store.proofs.Words.{all_candidates, AreQueried, Cache, Cancelled, find, IdSpace, IfErr, is_named}
-use Rattle.resolvo_store.proofs.Words.{is_none, is_queried, is_set_queried, IsAnswered, IsGrowthRefusal, IsLoadRefusal}
+use Rattle.resolvo_store.proofs.Words.{all_candidates, AreQueried, Cache, Cancelled, find, IdSpace, is_named}
+use Rattle.resolvo_store.proofs.Words.{is_none, is_queried, is_set_queried, IsAnswered, IsLoadRefusal}
 use Rattle.resolvo_store.proofs.Words.{knows_requirement, lacks_candidates, lacks_ids, lacks_variables, list_all}
 use Rattle.resolvo_store.proofs.Words.{list_any, lists_of, Load, load, LoadedAs, MatchOption, may_be_refused}
 use Rattle.resolvo_store.proofs.Words.{OutOfMemory, Refused, Reply, Requirement, sets_of, Step, Store, StoreError}
 use Rattle.resolvo_store.proofs.Words.{UnknownId, variables_loaded, VersionSetId}
 use Rattle.resolvo_store.proofs.CandidateLaws.{found_last}
 
--- what follows of a refusal
-pub if_refused : {T E : Type 0} (P Q : E → Type 0) (result : Result T E) → ((e : E) → P e → Q e) → IfErr result P →
-    IfErr result Q
-if_refused P Q (Ok x) more h = tt
-if_refused P Q (Err e) more h = more e h
-
--- where ids are lacking, they are among more that may be
-pub growth_refused : (asked more lacks : Bool) (e : StoreError) → IsGrowthRefusal lacks e →
-    IsLoadRefusal asked (more || lacks) e
-growth_refused asked more lacks OutOfMemory h = h
-growth_refused asked more lacks IdSpace h = ap (λ b. more || b) h ∙ or-true more
-growth_refused asked more lacks _ h = absurd h
+-- what is so after a refusal
+pub where_err : {T E : Type 0} (P : Type 0) (result : Result T E) → is_err result ≡ true → OnErr result P → P
+where_err P (Ok x) h on = (let no : false ≡ true = h in cc)
+where_err P (Err e) h on = on
 
 -- of two, the second lacks something
 lacks_behind : (large others_large many new others_new : Bool) → (others_large || (many && others_new)) ≡ true

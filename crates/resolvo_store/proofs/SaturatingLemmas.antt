@@ -120,7 +120,7 @@ module _ {D N S A H Q : Type 0} {has : Q → N → Bool} {st : Store N S} {loade
   after_saturated {literals = literals} level {after = after} {cs = cs} in_range left entries place = record {
     few = is.few;
     known = is.known;
-    queried = is.queried;
+    through = is.through;
     sound = IsSound-saturated level st (with_forced st cs after) in_range is.sound
         (saturated st is.sound literals level trail after cs left entries place);
     may_decide = record {

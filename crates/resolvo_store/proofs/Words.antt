@@ -96,8 +96,8 @@ pub use Rattle.resolvo_store.specs.Counted.{Follows, no_false, placed, placed_in
 pub use Rattle.resolvo_store.specs.ForbidsTwo.{ForbidsTwo, is_forbidding, is_satisfied, is_true_literal}
 pub use Rattle.resolvo_store.specs.Growth.{AreCandidates, candidate_variables, IsOfCandidates, OnlyGrows}
 pub use Rattle.resolvo_store.specs.Helpers.{is_helper_known}
-pub use Rattle.resolvo_store.specs.Lists.{AreQueried, HasMarks, IsConsistent, IsOneMore, lists_of_loaded}
-pub use Rattle.resolvo_store.specs.Lists.{stored_disjunctions}
+pub use Rattle.resolvo_store.specs.Lists.{AreQueried, CameThrough, HasMarks, IsConsistent, IsFit, IsOneMore}
+pub use Rattle.resolvo_store.specs.Lists.{lists_of_loaded, stored_disjunctions}
 pub use Rattle.resolvo_store.specs.LoadRefusals.{IsLoadRefusal}
 pub use Rattle.resolvo_store.specs.Models.{Agrees, is_negation, IsModel, IsModelNow, MayLeaveFalse, true_alone}
 pub use Rattle.resolvo_store.specs.Outcome.{adds_clause, assign_reply, assigned, cut_back, decision, falsified_clause}

@@ -1,5 +1,6 @@
 -- Lists of variables as they are stored, and what is true of the state of a store.
-use Rattle.std.specs.Prelude.{◌≡◌, ℕ, ◌-◌, ◌^◌, Bool, true, List, [], ◌∷◌, ◌++◌, length, map, Option, All}
+use Rattle.std.specs.Prelude.{◌≡◌, ℕ, ◌-◌, ◌^◌, Bool, true, false, List, [], ◌∷◌, ◌++◌, length, map, Option, All}
+use Rattle.std.specs.List.{list_any}
 use Rattle.std.specs.Map.{lookup}
 use Rattle.std.specs.declared.vec.Vec.{Vec}
 use Rattle.providers.specs.declared.requirement.Requirement.{Requirement}
@@ -16,10 +17,12 @@ use Rattle.resolvo_queue.specs.Queue.{Queue}
 use Rattle.resolvo_queue.specs.References.{references}
 use Rattle.resolvo_queue.specs.Rows.{AreFew}
 use Rattle.resolvo_store.specs.Counted.{AreCounted, Counting}
+use Rattle.resolvo_store.specs.Growth.{IsOfCandidates}
 use Rattle.resolvo_store.specs.Synced.{MayDecide}
 use Rattle.resolvo_store.specs.Sound.{IsSound}
 use Rattle.resolvo_store.specs.Store.{Store, Provider, StoredDisjunction, clause_literals, watched_by}
-use Rattle.solver_cache.specs.Cache.{Cache, is_set_queried}
+use Rattle.solver_cache.specs.Cache.{Cache, is_set_queried, sorted_of}
+use Rattle.variables.specs.declared.variable_origin.VariableOrigin.{VariableOrigin}
 
 -- the lists in a vector of vectors
 abbrev pub items_of : {A : Type 0} → Vec (Vec ℕ A) A → List (List ℕ)
@@ -61,6 +64,18 @@ abbrev pub AreQueried : {D N S A H : Type 0} → Provider N S → Cache D N S A 
     List (Requirement × List (List ℕ)) → Type 0
 AreQueried p cache loaded = All (λ e. All (λ v. is_set_queried p cache v ≡ true) (sets_of p.universe e.0)) loaded
 
+-- nothing of a requirement is too large to be kept: neither the names of its packages nor its candidates
+pub record IsFit {N S : Type 0} (p : Provider N S) (r : Requirement) : Type 0 where
+  pub names : list_any (λ v. p.is_large_name (p.universe.set_name v)) (sets_of p.universe r) ≡ false
+  pub solvables : list_any p.is_large_solvable (sorted_of p r) ≡ false
+
+-- what was loaded came through the cache, and is of candidates that have variables
+pub record CameThrough {D N S A H : Type 0} (p : Provider N S) (cache : Cache D N S A H)
+    (origins : List (VariableOrigin N S)) (loaded : List (Requirement × List (List ℕ))) : Type 0 where
+  pub queried : AreQueried p cache loaded
+  pub fit : All (λ e. IsFit p e.0) loaded
+  pub candidates : All (IsOfCandidates p origins) loaded
+
 -- the state is consistent: it can decide, with few rows for each requirement, and clauses of known requirements alone;
 -- the store is one that commands can make; what was loaded came through the cache; and the queue may decide, whose
 -- clauses stand on these lists and disjunctions
@@ -70,7 +85,7 @@ pub record IsConsistent {D N S A H Q : Type 0} (has : Q → N → Bool) (st : St
   pub few : AreFew loaded
   pub known : AreKnown st.provider.universe st.requires
   pub sound : IsSound st
-  pub queried : AreQueried st.provider cache st.loaded
+  pub through : CameThrough st.provider cache st.origins st.loaded
   pub may_decide : MayDecide has st.scores (references st.provider.universe loaded disjunctions) queue trail
 
 -- these are marks of the store's trail, over its clauses

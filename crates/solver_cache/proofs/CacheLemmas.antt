@@ -9,9 +9,9 @@ use Rattle.std.proofs.lemmas.List.{append-nil, take-append-drop, take-append-le,
 use Rattle.std.proofs.lemmas.Bool.Decides.{nat_tests}
 use Rattle.std.proofs.lemmas.List.Folds.{list_all_at, list_any_at}
 use Rattle.std.proofs.lemmas.List.Elements.{All-head, All-tail, All-push}
-use Rattle.solver_cache.proofs.Words.{All, AreBest, AreSorted, BeginsWith, Cache, CacheError, Cancelled, Candidates}
+use Rattle.solver_cache.proofs.Words.{All, AreSorted, BeginsWith, Cache, CacheError, Cancelled, Candidates}
 use Rattle.solver_cache.proofs.Words.{Dependencies, eq-value, Err, IdSpace, IfErr, is_cached, is_set_queried, IsAnswer}
-use Rattle.solver_cache.proofs.Words.{IsBest, IsCache, IsErrAnd, IsGrowthRefusal, IsLater, IsOnce, IsRefusedOf}
+use Rattle.solver_cache.proofs.Words.{IsCache, IsErrAnd, IsGrowthRefusal, IsLater, IsOnce, IsRefusedOf}
 use Rattle.solver_cache.proofs.Words.{IsRefusedOfSets, IsSorted, lacks_candidates, list_any, lookup, Matching}
 use Rattle.solver_cache.proofs.Words.{matching, MayAnswer, needs_of, non_matching, NonMatching, Ok, OnErr, OutOfMemory}
 use Rattle.solver_cache.proofs.Words.{Provider, Requirement, Result, same_requirement, same_set, sets_of, Single}
@@ -404,12 +404,6 @@ module _ {D N S A H : Type 0} (has : H → S → Bool) where
       → AreSorted p may has c (vs ++ v ∷ []) e
   sorted_push p may [] v c d e first next = (e, subst (λ x. IsSorted p may has x v e) first next, refl)
   sorted_push p may (w ∷ vs) v c d e first next = (first.0, first.1, sorted_push p may vs v first.0 d e first.2 next)
-
-  pub best_push : (p : Provider N S) (may : MayAnswer N S A) (vs : List VersionSetId) (v : VersionSetId)
-      (c d e : Cache D N S A H) → AreBest p may has c vs d → IsBest p may has d v e
-      → AreBest p may has c (vs ++ v ∷ []) e
-  best_push p may [] v c d e first next = (e, subst (λ x. IsBest p may has x v e) first next, refl)
-  best_push p may (w ∷ vs) v c d e first next = (first.0, first.1, best_push p may vs v first.0 d e first.2 next)
 
 -- where no answer can be kept for a package, none can be later
 more_used : (large many : Bool) (used later : ℕ) → used ≤ later → (large || (many && leb (2 ^ 32) used)) ≡ true →

@@ -29,7 +29,7 @@ second_fails false b h = h
 module _ {D N S A H : Type 0} {may : MayAnswer N S A} (p : Provider N S) (c : Cache D N S A H) (is : IsCache p may c)
     (is_sameness : (a b : N) → p.same_name a b ≡ true → a ≡ b) where
   -- a name that was asked for isn't too large
-  asked_fits : (v : VersionSetId) → is_set_queried p c v ≡ true → p.is_large_name (p.universe.set_name v) ≡ false
+  pub asked_fits : (v : VersionSetId) → is_set_queried p c v ≡ true → p.is_large_name (p.universe.set_name v) ≡ false
   asked_fits v queried =
       let n = p.universe.set_name v in
       let found = some_of _ queried in

@@ -23,9 +23,9 @@ pub use Rattle.solver_cache.specs.Cache.{IsCache, listed, same_set, sorted_of, s
 pub use Rattle.solver_cache.specs.CandidateLaws.{CandidatesDivide, Divide}
 pub use Rattle.solver_cache.specs.Functions.{gathered, MayAnswer, Provider}
 pub use Rattle.solver_cache.specs.Hints.{hints_of, with_hints}
-pub use Rattle.solver_cache.specs.Outcomes.{AnswersBestList, AnswersSorted, RefusesCandidates, RefusesDependencies}
+pub use Rattle.solver_cache.specs.Outcomes.{AnswersSorted, RefusesCandidates, RefusesDependencies}
 pub use Rattle.solver_cache.specs.Outcomes.{RefusesFiltered, RefusesSets, RefusesSorted}
-pub use Rattle.solver_cache.specs.Questions.{AreBest, AreSorted, BeginsWith, IsBest, IsLater, IsMarked, IsMatched}
+pub use Rattle.solver_cache.specs.Questions.{AreSorted, BeginsWith, IsLater, IsMarked, IsMatched}
 pub use Rattle.solver_cache.specs.Questions.{IsOnce, IsQueried}
 pub use Rattle.solver_cache.specs.Questions.{IsRefusal, IsRefusedOf, IsRefusedOfSets, IsSorted, lacks_candidates}
 pub use Rattle.solver_cache.specs.Questions.{lacks_dependencies, may_lack_candidates}

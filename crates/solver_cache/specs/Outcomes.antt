@@ -14,7 +14,7 @@ use Rattle.solver_cache.specs.Cache.{Cache, IsAnswer, AreListed, is_queried, is_
 use Rattle.solver_cache.specs.Cache.{sorted_of_set, sorted_of}
 use Rattle.solver_cache.specs.Functions.{Provider, MayAnswer}
 use Rattle.solver_cache.specs.Questions.{IsLater, IsQueried, IsFetched, IsMatched, IsUnmatched}
-use Rattle.solver_cache.specs.Questions.{IsSorted, AreSorted, IsRequirementSorted, IsBest, AreBest}
+use Rattle.solver_cache.specs.Questions.{IsSorted, AreSorted, IsRequirementSorted, IsBest}
 use Rattle.solver_cache.specs.Questions.{IsRefusedOf, IsRefusedOfSets, lacks_candidates, lacks_dependencies}
 use Rattle.solver_cache.specs.Unanswered.{IsUnanswered, IsUnfiltered, IsUnsorted, AreCutShort}
 use Rattle.solver_cache.specs.declared.error.CacheError.{CacheError}
@@ -91,27 +91,15 @@ module _ {D N S A H : Type 0} (p : Provider N S) (may : MayAnswer N S A) (has : 
     pub left : AreCutShort p may has vs old e new
     pub later : IsLater has old new
 
-  -- those that version sets hold, best first, are answered by the places of their lists; no others of them are kept
-  pub record AnswersBest (vs : List VersionSetId) (ids : List (ListKind × ℕ)) (new : Cache D N S A H) : Type 0 where
-    pub kept : AreBest p may has old vs new
-    pub lists : AreListed p new ids vs
-    pub later : IsLater has old new
-    pub queried : All (λ v. is_set_queried p new v ≡ true) vs
-    pub fit : list_any (λ v. p.is_large_name (p.universe.set_name v)) vs ≡ false
-
-  -- they are refused
-  pub record RefusesBest {C : Type 0} (vs : List VersionSetId) (e : CacheError C) (new : Cache D N S A H) : Type 0 where
-    pub reason : IsRefusedOfSets p vs old e new
-    pub later : IsLater has old new
-
-  -- ---- outcomes of parts of a question
-
-  -- the candidates that a version set holds, best first, are answered by the place of their list; no other one is kept
-  pub record AnswersBestList (v : VersionSetId) (id : ListKind × ℕ) (new : Cache D N S A H) : Type 0 where
+  -- those that a version set holds, best first, are answered by the place of their list, and no other list is kept
+  pub record AnswersBest (v : VersionSetId) (id : ListKind × ℕ) (new : Cache D N S A H) : Type 0 where
     pub kept : IsBest p may has old v new
     pub list : list_at new id ≡ Some (sorted_of_set p v)
     pub later : IsLater has old new
     pub queried : is_set_queried p new v ≡ true
+    pub fit : p.is_large_name (p.universe.set_name v) ≡ false
+
+  -- ---- outcomes of parts of a question
 
   -- a version set's package was queried
   pub record QueriesPackage (v : VersionSetId) (new : Cache D N S A H) : Type 0 where

@@ -93,11 +93,6 @@ module _ {D N S A H : Type 0} (p : Provider N S) (may : MayAnswer N S A) (has : 
   AreSorted old [] new = new ≡ old
   AreSorted old (v ∷ vs) new = (mid : Cache D N S A H) × IsSorted old v mid × AreSorted mid vs new
 
-  -- the same, but no list of them in another order is kept
-  abbrev pub AreBest : Cache D N S A H → List VersionSetId → Cache D N S A H → Type 0
-  AreBest old [] new = new ≡ old
-  AreBest old (v ∷ vs) new = (mid : Cache D N S A H) × IsBest old v mid × AreBest mid vs new
-
   -- after those of a requirement were
   abbrev pub IsRequirementSorted : Cache D N S A H → Requirement → Cache D N S A H → Type 0
   IsRequirementSorted old (Single v) new = IsSorted old v new

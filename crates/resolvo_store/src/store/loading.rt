@@ -149,7 +149,13 @@ impl<D: DependencyProvider + Drop> ClauseStore<D> {
         ensures refused { IfErr result (λ e.
             may_be_refused (⟦<D as Abstract>⟧.store self.old) (Load requirement) e ≡ true) }
     {
-        let lists = load_lists(&mut self.cache, &mut self.variables, requirement)?;
+        let lists = load_lists(
+            &mut self.cache,
+            &mut self.variables,
+            &self.loaded,
+            self.alloc,
+            requirement,
+        )?;
         let reply = copy_of(&lists, copied)?;
         self.loaded.insert(requirement, lists)?;
         Ok(reply)

@@ -1,5 +1,5 @@
 //! The questions about requirements: their candidates, best first.
-ghost use Rattle.std.specs.Prelude.{◌≡◌, true, All, flat_map, Some, IsOk, IfOk, OnOk, IfErr};
+ghost use Rattle.std.specs.Prelude.{◌≡◌, true, false, All, flat_map, Some, IsOk, IfOk, OnOk, IfErr};
 ghost use Rattle.typed_ids.specs.declared.error.StoreError.TheVariants.{OutOfMemory};
 ghost use Rattle.providers.specs.Provider.{favored_first};
 
@@ -92,6 +92,7 @@ impl<D: DependencyProvider + Drop> SolverCache<D> {
             D.SolvableId.Set.has self.old set self.new) }
         ensures list { IfOk result (λ list. list.items ≡
             sorted_of_set (⟦<D as ProviderFunctions>⟧.functions self.old.provider) set) }
+        ensures fit { OnOk result (D.NameId.Slots.is_too_large ((D.universe self.old.provider).set_name set) ≡ false) }
         ensures refused { IfErr result (λ e. RefusesFiltered
             (⟦<D as ProviderFunctions>⟧.functions self.old.provider) (D.may_answer self.old.provider)
             D.SolvableId.Set.has self.old set e self.new) }
@@ -227,6 +228,7 @@ impl<D: DependencyProvider + Drop> SolverCache<D> {
         ensures ok { IfOk result (λ ordered. ordered.items ≡ favored_first D.SolvableId.eq
             ((D.answers self.now.provider).favored ((D.universe self.now.provider).set_name set))
             ((D.answers self.now.provider).order list.items)) }
+        ensures fit { D.NameId.Slots.is_too_large ((D.universe self.now.provider).set_name set) ≡ false }
         ensures memory { IfErr result (λ e. e ≡ OutOfMemory) }
     {
         let favored = self.favored(set);

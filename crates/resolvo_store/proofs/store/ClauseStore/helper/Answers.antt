@@ -1,4 +1,5 @@
 use Rattle.std.proofs.Common.{◌≡◌, ◌∙◌, ◌++◌, ◌∷◌, [], length, refl, sym, subst, ap}
+use Rattle.solver_cache.proofs.CacheLemmas.{begins_more}
 use Rattle.resolvo_store.proofs.Words.{are_variables_out, Helper, helper_origin, is_helper_known, Refused, replied}
 use Rattle.resolvo_store.proofs.Words.{Step, store_of, StoreState, UnknownId, VariableIs, VariableOrigin}
 use Rattle.resolvo_store.specs.Store.{Provider, gathered}
@@ -38,7 +39,7 @@ invariant_of-self g c =
     c.provider.ensures.provider c.knows_helper.ensures ∙ helper_known_is st origin in
     record {
       consistent = after_origins c.self.invariant.consistent (c.self.inside.variables ++ helper_origin origin ∷ [])
-          c.alloc_helper.result
+          c.alloc_helper.result (begins_more c.self.inside.variables (helper_origin origin))
           (IsSound-helper _ c.self.invariant.consistent.sound origin (sym known_is ∙ c.if-not-knows_helper.false))
           c.alloc_helper.ensures.ok c.alloc_helper.ensures.err;
       counted = c.self.invariant.counted;

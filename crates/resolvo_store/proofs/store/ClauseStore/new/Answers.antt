@@ -1,4 +1,4 @@
-use Rattle.std.proofs.Common.{rules, refl, subst, sym, take, [], arith}
+use Rattle.std.proofs.Common.{rules, refl, subst, sym, [], arith}
 use Rattle.resolvo_store.proofs.Words.{AreCounted, Clauses, IsConsistent, IsSound, lists_of_loaded, queue_state_of}
 use Rattle.resolvo_store.proofs.Words.{store_of, stored_disjunctions, StoreState}
 use Rattle.resolvo_store.proofs.CountedLemmas.{none_counted}
@@ -51,7 +51,7 @@ invariant_of-result g c =
             few = search rules;
             known = search rules;
             sound = IsSound-new_store _;
-            queried = search rules;
+            through = record { queried = search rules; fit = search rules; candidates = search rules };
             may_decide = new_may_ask c.new-6.result _ _ c.new-6.ensures.new c.new-6.ensures.stands refl;
           }));
       counted = subst (λ rs. AreCounted c.new-7.result rs c.new-8.result.entries c.new-4.result c.new-5.result)

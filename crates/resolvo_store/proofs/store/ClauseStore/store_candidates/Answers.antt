@@ -49,11 +49,11 @@ candidates_known g p r = all_known (given g p) (lawful g p) (sets_of (g.D.Intern
 pub invariant_of-self : goal.invariant_of-self
 invariant_of-self g c =
     let inside = c.self.inside in
-    let got = c.in_err-lists.ensures.err in
+    let got = c.in_err-lists.ensures.refused.part in
     record {
       consistent = after_variables (given g) g.D.NameId.Scores.IdMap.value_at g.D.SolvableId.Set.IdSet.has
           g.D.NameId.Set.IdSet.has (left_of c.self.view_is) inside.variables inside.loaded inside.disjunctions
-          inside.queue inside.trail inside.cache c.load_lists.new.cache c.in_err-lists.ensures.later
+          inside.queue inside.trail inside.cache c.load_lists.new.cache c.in_err-lists.ensures.refused.later
           c.self.invariant.consistent (lawful g inside.cache.provider)
           (take got.0 (sorted_of (given g inside.cache.provider) c.args.requirement)) c.load_lists.new.variables
           (All-take (IsKnownSolvable (g.D.Interner.universe inside.cache.provider)) got.0 _
@@ -69,10 +69,10 @@ invariant_of-self-in_err-reply g c =
     record {
       consistent = after_variables (given g) g.D.NameId.Scores.IdMap.value_at g.D.SolvableId.Set.IdSet.has
           g.D.NameId.Set.IdSet.has (left_of c.self.view_is) inside.variables inside.loaded inside.disjunctions
-          inside.queue inside.trail inside.cache c.load_lists.new.cache c.in_ok-lists.ensures.later
+          inside.queue inside.trail inside.cache c.load_lists.new.cache c.in_ok-lists.ensures.loaded.later
           c.self.invariant.consistent (lawful g inside.cache.provider)
           (sorted_of (given g inside.cache.provider) c.args.requirement) c.load_lists.new.variables
-          (candidates_known g inside.cache.provider c.args.requirement) c.in_ok-lists.ensures.ok;
+          (candidates_known g inside.cache.provider c.args.requirement) c.in_ok-lists.ensures.loaded.interned;
       counted = c.self.invariant.counted;
       marked = c.self.invariant.marked;
     }
@@ -88,10 +88,10 @@ invariant_of-self-in_err-insert g c =
           (sym c.in_err-insert.ensures.err.1)
           (after_variables (given g) g.D.NameId.Scores.IdMap.value_at g.D.SolvableId.Set.IdSet.has
           g.D.NameId.Set.IdSet.has (left_of c.self.view_is) inside.variables inside.loaded inside.disjunctions
-          inside.queue inside.trail inside.cache new c.in_ok-lists.ensures.later
+          inside.queue inside.trail inside.cache new c.in_ok-lists.ensures.loaded.later
           c.self.invariant.consistent (lawful g inside.cache.provider)
           (sorted_of (given g inside.cache.provider) c.args.requirement) c.load_lists.new.variables
-          (candidates_known g inside.cache.provider c.args.requirement) c.in_ok-lists.ensures.ok);
+          (candidates_known g inside.cache.provider c.args.requirement) c.in_ok-lists.ensures.loaded.interned);
       counted = subst (λ kept. AreCounted inside.falsified inside.queue.clauses inside.trail.entries kept
           inside.disjunctions)
           (sym c.in_err-insert.ensures.err.1) c.self.invariant.counted;
@@ -110,12 +110,16 @@ invariant_of-self-2 g c =
     record {
       consistent = after_load (given g) g.D.NameId.Scores.IdMap.value_at g.D.SolvableId.Set.IdSet.has
           g.D.NameId.Set.IdSet.has (left_of c.self.view_is) inside.variables inside.loaded inside.disjunctions
-          inside.queue inside.trail inside.cache c.load_lists.new.cache c.in_ok-lists.ensures.later
+          inside.queue inside.trail inside.cache c.load_lists.new.cache c.in_ok-lists.ensures.loaded.later
           c.self.invariant.consistent (lawful g inside.cache.provider) r
-          (sorted_of_set (given g inside.cache.provider)) c.load_lists.new.variables c.in_ok-lists.lists
+          c.load_lists.new.variables c.in_ok-lists.lists
           c.insert.new.self
-          (candidates_known g inside.cache.provider r) fresh c.in_ok-lists.ensures.ok c.in_ok-lists.ensures.lists
-          c.in_ok-lists.ensures.few c.in_ok-lists.ensures.queried c.in_ok-insert.ensures.ok;
+          (candidates_known g inside.cache.provider r) fresh c.in_ok-lists.ensures.loaded.interned
+          c.in_ok-lists.ensures.loaded.of_variables
+          c.in_ok-lists.ensures.small c.in_ok-lists.ensures.loaded.queried (record {
+            names = c.in_ok-lists.ensures.loaded.names_fit;
+            solvables = c.in_ok-lists.ensures.loaded.fit;
+          }) c.in_ok-insert.ensures.ok;
       counted = subst (λ kept. AreCounted inside.falsified inside.queue.clauses inside.trail.entries kept
           inside.disjunctions)
           (sym c.in_ok-insert.ensures.ok) (keeps_counted refl (λ h. record {
@@ -132,9 +136,9 @@ returns-clause-lists g c =
     let r = c.args.requirement in
     let p = given g c.self.inside.cache.provider in
     λ is_copied. subst (λ kept. items_of c.in_ok-reply.reply ≡ variables_loaded (store g kept) r) c.self.view_is
-    (c.in_ok-reply.ensures.ok is_copied ∙ c.in_ok-lists.ensures.lists
+    (c.in_ok-reply.ensures.ok is_copied ∙ c.in_ok-lists.ensures.loaded.of_variables
     ∙ ap (λ os. map (λ v. map (interned_variable g.D.SolvableId.PartialEq.eq os) (sorted_of_set p v))
-    (sets_of p.universe r)) c.in_ok-lists.ensures.ok)
+    (sets_of p.universe r)) c.in_ok-lists.ensures.loaded.interned)
 
 pub returns-clause-ok : goal.returns-clause-ok
 returns-clause-ok g c =
@@ -146,9 +150,9 @@ returns-clause-ok g c =
     let fresh : lookup (same_requirement r) (lists_of_loaded inside.loaded) ≡ None =
     subst (λ kept. lookup (same_requirement r) kept.loaded ≡ None) (sym c.self.view_is) c.requires.new in
     let lists : items_of c.in_ok-lists.lists ≡ variables_loaded (store g was) r =
-    c.in_ok-lists.ensures.lists
+    c.in_ok-lists.ensures.loaded.of_variables
     ∙ ap (λ os. map (λ v. map (interned_variable g.D.SolvableId.PartialEq.eq os) (sorted_of_set p v))
-    (sets_of p.universe r)) c.in_ok-lists.ensures.ok in
+    (sets_of p.universe r)) c.in_ok-lists.ensures.loaded.interned in
     let loaded : lists_of_loaded c.insert.new.self ≡ lists_of_loaded inside.loaded ++ (
       r,
       variables_loaded (store g was) r,
@@ -175,8 +179,9 @@ returns-clause-ok g c =
       origins = c.load_lists.new.variables;
       loaded =
           lists_of_loaded c.insert.new.self;
-    }) c.in_ok-lists.ensures.later.provider
-    ∙ ap (λ os. record was { origins = os; loaded = lists_of_loaded c.insert.new.self }) c.in_ok-lists.ensures.ok
+    }) c.in_ok-lists.ensures.loaded.later.provider
+    ∙ ap (λ os. record was { origins = os; loaded = lists_of_loaded c.insert.new.self })
+    c.in_ok-lists.ensures.loaded.interned
     ∙ ap (λ ls. record was { origins = origins_loaded (store_in c.self.invariant.consistent.sound) r; loaded = ls })
     loaded)
 
@@ -185,8 +190,8 @@ returns-clause-fit g c =
     let inside = c.self.inside in
     let r = c.args.requirement in
     subst (λ kept. lacks_ids (store g kept) (Load r) ≡ false) c.self.view_is
-    (lacks_nothing (store_in c.self.invariant.consistent.sound) r c.in_ok-lists.ensures.names_fit
-    c.in_ok-lists.ensures.few c.in_ok-lists.ensures.fit)
+    (lacks_nothing (store_in c.self.invariant.consistent.sound) r c.in_ok-lists.ensures.loaded.names_fit
+    c.in_ok-lists.ensures.small c.in_ok-lists.ensures.fit)
 
 pub returns-in_err-lists-clause-refused : goal.returns-in_err-lists-clause-refused
 returns-in_err-lists-clause-refused g c =
@@ -198,7 +203,8 @@ returns-in_err-lists-clause-refused g c =
     handed_on _ c.from_residual.result e c.from_residual.ensures.1
     (subst (λ kept. may_be_refused (store g kept) (Load r) e ≡ true) c.self.view_is
     (load_refused (store_in c.self.invariant.consistent.sound) r inside.cache c.load_lists.new.cache
-    g.met.D.NameId.SameValue.same c.self.invariant.consistent.queried fresh e c.in_err-lists.ensures.refused))
+    g.met.D.NameId.SameValue.same c.self.invariant.consistent.through.queried fresh e
+    c.in_err-lists.ensures.refused.reason))
 
 pub returns-in_err-reply-clause-front : goal.returns-in_err-reply-clause-front
 returns-in_err-reply-clause-front g c = grind (arith, common_steps)

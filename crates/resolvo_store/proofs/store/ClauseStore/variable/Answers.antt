@@ -1,6 +1,7 @@
-use Rattle.std.proofs.Common.{◌≡◌, ◌∙◌, ap, sym, true}
+use Rattle.std.proofs.Common.{◌≡◌, ◌∙◌, ◌∷◌, [], ap, sym, true}
 use Rattle.variables.specs.Variables.{with_variable}
 use Rattle.resolvo_store.specs.Store.{Provider, gathered}
+use Rattle.resolvo_store.proofs.CandidateLists.{begins_variables}
 use Rattle.resolvo_store.proofs.InvariantLemmas.{after_origins}
 use Rattle.resolvo_store.proofs.KnownLemmas.{IsLawful}
 use Rattle.resolvo_store.proofs.SoundLaws.{IsSound-with_variable}
@@ -31,6 +32,7 @@ invariant_of-self g c =
     record {
       consistent = after_origins c.self.invariant.consistent
           (with_variable g.D.SolvableId.PartialEq.eq c.self.inside.variables c.args.solvable) c.intern_solvable.result
+          (begins_variables g.D.SolvableId.PartialEq.eq c.self.inside.variables (c.args.solvable ∷ []))
           (IsSound-with_variable _ c.self.invariant.consistent.sound
           (lawful g c.self.inside.cache.provider) c.args.solvable known) c.intern_solvable.ensures.ok
           c.intern_solvable.ensures.err;

@@ -4,6 +4,7 @@ use Rattle.solver_cache.proofs.Words.{gathered, is_cached, is_set_queried, IsLat
 use Rattle.solver_cache.proofs.Words.{same_requirement, Single, sorted, Store}
 use Rattle.solver_cache.proofs.CacheLemmas.{found_single, handed_on, later_same, more_list, more_sorted, once_kept}
 use Rattle.solver_cache.proofs.CacheLemmas.{once_new, right_single, same_is, value_last}
+use Rattle.solver_cache.proofs.IdLemmas.{asked_fits}
 use Rattle.solver_cache.proofs.UnionLemmas.{none_of}
 use Rattle.solver_cache.proofs.FilteringLemmas.{memory_refused}
 use Rattle.solver_cache.proofs.SortingLemmas.{asked_sorted, later_sorted, not_kept}
@@ -31,6 +32,7 @@ returns-in-Some-clause-answered g c =
       list = found.0;
       later = later_same _ _;
       queried = found.1;
+      fit = asked_fits _ _ c.self.invariant g.met.D.NameId.SameValue.same c.args.set found.1;
     })
 
 -- where the list can't be kept
@@ -105,6 +107,7 @@ returns-in_ok-place-in-None-clause-answered g c =
       later = rw c.in_ok-place-in-None.ensures.ok (later_sorted has old _ r list
           (subst (λ v. IsLater has old v) (sym c.self-in-None.view_is) asked.later));
       queried = ap (λ v. is_set_queried (provided g old.provider) v set) c.self-in-None.view_is ∙ asked.queried_now;
+      fit = c.in_ok-list-in-None.ensures.fit;
     }
 
 pub invariant_of-self : goal.invariant_of-self

@@ -1,4 +1,4 @@
-use Rattle.std.proofs.Common.{◌≡◌, ◌∙◌, true, ap, inr}
+use Rattle.std.proofs.Common.{◌≡◌, ◌∙◌, true, false, ap, inr, subst}
 use Rattle.std.proofs.lemmas.List.Elements.{All-filter}
 use Rattle.solver_cache.proofs.Words.{favored_first, Store}
 use Rattle.solver_cache.proofs.CacheLemmas.{handed_on}
@@ -39,3 +39,8 @@ returns-in_err-best_first-clause-refused g c =
       left = inr done.queried;
       later = done.later;
     })
+
+pub returns-clause-fit : goal.returns-clause-fit
+returns-clause-fit g c =
+    subst (λ q. g.D.NameId.Slots.IdMap.is_too_large ((g.D.Interner.universe q).set_name c.args.set) ≡ false)
+    c.in_ok-list.ensures.package.later.provider c.best_first.ensures.fit
