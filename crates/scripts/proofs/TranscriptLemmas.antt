@@ -1,5 +1,5 @@
 -- One line more of a transcript.
-use Rattle.std.proofs.Common.{◌≡◌, ℕ, ◌+◌, true, false, List, [], ◌∷◌, ◌++◌, ◌⊎◌, Option, None, Some, Result, Ok}
+use Rattle.std.proofs.Common.{◌≡◌, ℕ, ◌+◌, List, [], ◌∷◌, ◌++◌, ◌⊎◌, Option, None, Some, Result, Ok}
 use Rattle.std.proofs.Common.{Err, length, drop, refl, sym, ap, subst, inl, inr, ◌∙◌, append_assoc, append-nil}
 use Rattle.std.proofs.KnownBytes.{starts_with_rest}
 use Rattle.resolvo_store.specs.Command.{Command}
@@ -14,13 +14,12 @@ use Rattle.script_text.specs.declared.statement.Line.TheVariants.{Skipped, Unrea
 use Rattle.script_text.specs.Output.{HandsOn, TakesSome}
 use Rattle.script_text.specs.Status.{fault_at}
 use Rattle.script_text.specs.Statements.{MeansWords, says}
-use Rattle.script_text.specs.Words.{words}
 use Rattle.script_text.proofs.Handing.{HandsOn-trans, HandsOn-wait, HandsOn-on, TakesSome-after}
 use Rattle.script_text.proofs.Statements.{meant_by}
 use Rattle.scripts.specs.Commands.{Ids, command_line_of, command_meant, command_said}
 use Rattle.scripts.specs.Replies.{reply_text}
 use Rattle.scripts.specs.Ends.{FirstAnswered, HandsAnswer}
-use Rattle.scripts.specs.Transcript.{IsRead, BeginsCommand, HasCommand, RefusesLine, ObeysLine, LineAnswered, Answered}
+use Rattle.scripts.specs.Transcript.{BeginsCommand, HasCommand, RefusesLine, ObeysLine, LineAnswered, Answered}
 
 refused_begins : {N S : Type 0} (now new : Store N S) (said : Line (Command N S)) (w w' : List ℕ) (after : Type 0) →
     RefusesLine now said w w' new → BeginsCommand said after
@@ -30,16 +29,6 @@ refused_begins now new (Says c) w w' after h = tt
 
 unreadable_lacks_nothing : (number : ℕ) → fault_at number OfLine.Unreadable ≡ OfScript.Memory → ⊥
 unreadable_lacks_nothing number h = cc
-
-module _ {N S : Type 0} (A T : Type 0) (read : List ℕ → List (List ℕ) →
-    Option (Command N S)) (st : Store N S) (text : List ℕ) where
-  -- words that weren't read as a command are obeyed so
-  pub unread : (f : LineFault) (given : Option (Command N S)) → IsRead {A = A} given (Err f) →
-      ObeysLine {T = T} st (says read given) text (Err f) text st
-  unread OfLine.Unreadable None h = (refl, refl)
-  unread OfLine.Unreadable (Some c) h = cc
-  unread OfLine.Memory None h = let no : false ≡ true = h in cc
-  unread OfLine.Memory (Some c) h = inl refl
 
 module _ {N S : Type 0} (ids : Ids N S) where
   -- lines were obeyed so far, with this text: however some lines go on from the store of now, so they do after those

@@ -139,16 +139,29 @@ module _ {N S : Type 0} where
   saturate_command (l ∷ []) = option_map (λ level. Saturate level) (number_32 l)
   saturate_command _ = None
 
+  abbrev pub constrains_command : List (List ℕ) → Option (Command N S)
+  constrains_command ws = option_map (λ w. Constrains w.0 w.1 w.2) (pair_and_set_of ws)
+
+  abbrev pub constrains_excluded_command : List (List ℕ) → Option (Command N S)
+  constrains_excluded_command ws = option_map (λ w. ConstrainsExcluded w.0 w.1 w.2) (pair_and_set_of ws)
+
+  abbrev pub constrains_parent_command : List (List ℕ) → Option (Command N S)
+  constrains_parent_command ws = option_map (λ w. ConstrainsParent w.0 w.1 w.2) (pair_and_set_of ws)
+
+  abbrev pub lock_command : List (List ℕ) → Option (Command N S)
+  lock_command ws = option_map (λ w. Lock w.0 w.1) (pair_of ws)
+
+  abbrev pub any_of_command : List (List ℕ) → Option (Command N S)
+  any_of_command ws = option_map (λ w. AnyOf w.0 w.1) (pair_of ws)
+
   -- the clauses between two variables
   abbrev pub between_command : List ℕ → List (List ℕ) → Option (Command N S)
   between_command keyword ws =
-      if bytes_eq keyword (codes "constrains") then option_map (λ w. Constrains w.0 w.1 w.2) (pair_and_set_of ws)
-      else if bytes_eq keyword (codes "constrains-excluded")
-      then option_map (λ w. ConstrainsExcluded w.0 w.1 w.2) (pair_and_set_of ws)
-      else if bytes_eq keyword (codes "constrains-parent")
-      then option_map (λ w. ConstrainsParent w.0 w.1 w.2) (pair_and_set_of ws)
-      else if bytes_eq keyword (codes "lock") then option_map (λ w. Lock w.0 w.1) (pair_of ws)
-      else if bytes_eq keyword (codes "any-of") then option_map (λ w. AnyOf w.0 w.1) (pair_of ws)
+      if bytes_eq keyword (codes "constrains") then constrains_command ws
+      else if bytes_eq keyword (codes "constrains-excluded") then constrains_excluded_command ws
+      else if bytes_eq keyword (codes "constrains-parent") then constrains_parent_command ws
+      else if bytes_eq keyword (codes "lock") then lock_command ws
+      else if bytes_eq keyword (codes "any-of") then any_of_command ws
       else None
 
 -- what a helper variable is to stand for, by its kind. A number below a limit names the package at it

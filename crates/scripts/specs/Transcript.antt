@@ -46,6 +46,12 @@ module _ {N S : Type 0} where
   ObeysLine old (Says c) text (Ok _) text' new = (reply : Reply) × Step old c reply new ×
       (text' ≡ text ++ reply_text reply)
 
+  -- words that give this command, or none, are obeyed so
+  abbrev pub ObeysGiven : {T : Type 0} → Store N S → Option (Command N S) → List ℕ → Result T LineFault → List ℕ
+      → Store N S → Type 0
+  ObeysGiven old None text result text' new = ObeysLine old Unreadable text result text' new
+  ObeysGiven old (Some c) text result text' new = ObeysLine old (Says c) text result text' new
+
   -- a line of this number says this, and what is after it goes on so from the store that it leaves, with the text that
   -- is left. `faulty` is the number of the first unreadable line, if there is one
   abbrev pub LineAnswered : Store N S → ℕ → Line (Command N S) → (Store N S → List ℕ → Type 0) → List ℕ → Option ℕ

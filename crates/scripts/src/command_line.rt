@@ -1,12 +1,12 @@
-//! Command lines. All that reads one is inlined into [`command`], so that no command is carried from call to call.
+//! The words of commands. All that reads them is inlined where a command is obeyed: so no command is made in memory.
 ghost use Rattle.std.specs.Prelude.{◌≡◌, [], ◌∷◌, IfSome, MatchOption, option_and_then, option_map};
 ghost use Rattle.script_packages.specs.Ids.{truth_of};
 ghost use Rattle.script_text.specs.Numbers.{below, number_of};
 ghost use Rattle.script_text.specs.Words.{words};
 ghost use Rattle.resolvo_store.specs.Command.{command_of};
 ghost use Rattle.scripts.specs.Commands.{ids_at, only_word, pair_of, pair_and_set_of, helper_origin_of};
-ghost use Rattle.scripts.specs.Commands.{command_said, plain_command, score_command, seldom_command, between_command};
-ghost use Rattle.scripts.specs.Commands.{bare_command};
+ghost use Rattle.scripts.specs.Commands.{any_of_command, bare_command, constrains_command, constrains_excluded_command};
+ghost use Rattle.scripts.specs.Commands.{constrains_parent_command, lock_command};
 ghost use Rattle.scripts.specs.Commands.{variable_command, helper_command, load_command, disjunction_command};
 ghost use Rattle.scripts.specs.Commands.{requires_command, assign_command};
 ghost use Rattle.scripts.specs.Commands.{undo_command, exclude_command, learnt_command, rewatch_command};
@@ -17,32 +17,16 @@ ghost use Rattle.scripts.specs.Transcript.{IsRead};
 use crate::literal_words::{literal_of, literals};
 use resolvo_store::{Command, HelperOrigin};
 use script_packages::{id, id_of, requirement, requirement_of};
-use script_text::{LineFault, Statement, is_word, next_marked, next_number, next_word};
+use script_text::{LineFault, is_word, next_marked, next_number, next_word};
 use std::alloc::Allocator;
 use typed_ids::{DenseIndex, VariableId, VersionSetId};
 
-/// The command that a statement after `begin` gives. A number names the package, or the solvable, of this index. Only
-/// `learnt` and `disjunction` lines take memory.
-#[inline(always)]
-pub fn command<N: DenseIndex, S: DenseIndex, A: Allocator>(
-    alloc: A,
-    said: Statement<'_>,
-) -> Result<Command<N, S, A>, LineFault>
-    ensures { IsRead (command_said (ids_at N.limit N.id_at S.limit S.id_at) said.entry.keyword.now
-        (words said.entry.rest.now)) result }
-{
-    if is_word(said.keyword, b"learnt") {
-        learnt(alloc, said.rest)
-    } else if is_word(said.keyword, b"disjunction") {
-        disjunction(alloc, said.rest)
-    } else {
-        plain_command(said).ok_or(LineFault::Unreadable)
-    }
-}
-
 /// `learnt LIT ..`
 #[inline(always)]
-fn learnt<N, S, A: Allocator>(alloc: A, text: &[u8]) -> Result<Command<N, S, A>, LineFault>
+pub(crate) fn learnt<N, S, A: Allocator>(
+    alloc: A,
+    text: &[u8],
+) -> Result<Command<N, S, A>, LineFault>
     ensures { IsRead (learnt_command (words text.now)) result }
 {
     match literals(alloc, text) {
@@ -53,7 +37,10 @@ fn learnt<N, S, A: Allocator>(alloc: A, text: &[u8]) -> Result<Command<N, S, A>,
 
 /// `disjunction CONDITION LIT ..`
 #[inline(always)]
-fn disjunction<N, S, A: Allocator>(alloc: A, text: &[u8]) -> Result<Command<N, S, A>, LineFault>
+pub(crate) fn disjunction<N, S, A: Allocator>(
+    alloc: A,
+    text: &[u8],
+) -> Result<Command<N, S, A>, LineFault>
     ensures { IsRead (disjunction_command (words text.now)) result }
 {
     let Some((condition, text)) = next_number(text) else {
@@ -65,106 +52,6 @@ fn disjunction<N, S, A: Allocator>(alloc: A, text: &[u8]) -> Result<Command<N, S
     match literals(alloc, text) {
         Ok(literals) => Ok(Command::Disjunction(literals, condition)),
         Err(fault) => Err(fault),
-    }
-}
-
-/// The command that a statement gives, if it is one without a list.
-#[inline(always)]
-fn plain_command<N: DenseIndex, S: DenseIndex, A: Allocator>(
-    said: Statement<'_>,
-) -> Option<Command<N, S, A>>
-    ensures { option_map command_of result
-        ≡ plain_command (ids_at N.limit N.id_at S.limit S.id_at) said.entry.keyword.now (words said.entry.rest.now) }
-{
-    if is_word(said.keyword, b"assign") {
-        assign(said.rest)
-    } else if is_word(said.keyword, b"requires") {
-        requires_clause(said.rest)
-    } else if is_word(said.keyword, b"load") {
-        load(said.rest)
-    } else if is_word(said.keyword, b"at-most-once") {
-        at_most_once(said.rest)
-    } else if is_word(said.keyword, b"decide") {
-        bare_command(said.rest, Command::Decide)
-    } else if is_word(said.keyword, b"unpropagated") {
-        bare_command(said.rest, Command::Unpropagated)
-    } else if is_word(said.keyword, b"undo-until") {
-        undo_until(said.rest)
-    } else if is_word(said.keyword, b"rewatch") {
-        rewatch(said.rest)
-    } else if is_word(said.keyword, b"watchers") {
-        watchers(said.rest)
-    } else if is_word(said.keyword, b"saturate") {
-        saturate(said.rest)
-    } else {
-        score_command(said)
-    }
-}
-
-/// The command that a statement gives, if it is one of scores.
-#[inline(always)]
-fn score_command<N: DenseIndex, S: DenseIndex, A: Allocator>(
-    said: Statement<'_>,
-) -> Option<Command<N, S, A>>
-    ensures { option_map command_of result
-        ≡ score_command (ids_at N.limit N.id_at S.limit S.id_at) said.entry.keyword.now (words said.entry.rest.now) }
-{
-    if is_word(said.keyword, b"bump") {
-        bump(said.rest)
-    } else if is_word(said.keyword, b"decay") {
-        decay(said.rest)
-    } else if is_word(said.keyword, b"standard") {
-        standard(said.rest)
-    } else {
-        seldom_command(said)
-    }
-}
-
-/// The command that a statement gives, if it is one that is said seldom.
-#[inline(always)]
-fn seldom_command<N: DenseIndex, S: DenseIndex, A: Allocator>(
-    said: Statement<'_>,
-) -> Option<Command<N, S, A>>
-    ensures { option_map command_of result
-        ≡ seldom_command (ids_at N.limit N.id_at S.limit S.id_at) said.entry.keyword.now (words said.entry.rest.now) }
-{
-    if is_word(said.keyword, b"variable") {
-        variable(said.rest)
-    } else if is_word(said.keyword, b"undo-last") {
-        bare_command(said.rest, Command::UndoLast)
-    } else if is_word(said.keyword, b"helper") {
-        helper(said.rest)
-    } else if is_word(said.keyword, b"exclude") {
-        exclude(said.rest)
-    } else if is_word(said.keyword, b"root") {
-        bare_command(said.rest, Command::Root)
-    } else {
-        between_command(said)
-    }
-}
-
-/// The command that a statement gives, if it is a clause between two variables.
-#[inline(always)]
-fn between_command<N, S, A: Allocator>(said: Statement<'_>) -> Option<Command<N, S, A>>
-    ensures { option_map command_of result ≡ between_command said.entry.keyword.now (words said.entry.rest.now) }
-{
-    if is_word(said.keyword, b"constrains") {
-        let (parent, forbidden, set) = pair_and_set(said.rest)?;
-        Some(Command::Constrains(parent, forbidden, set))
-    } else if is_word(said.keyword, b"constrains-excluded") {
-        let (candidate, aux, set) = pair_and_set(said.rest)?;
-        Some(Command::ConstrainsExcluded(candidate, aux, set))
-    } else if is_word(said.keyword, b"constrains-parent") {
-        let (parent, aux, set) = pair_and_set(said.rest)?;
-        Some(Command::ConstrainsParent(parent, aux, set))
-    } else if is_word(said.keyword, b"lock") {
-        let (locked, other) = pair(said.rest)?;
-        Some(Command::Lock(locked, other))
-    } else if is_word(said.keyword, b"any-of") {
-        let (selected, other) = pair(said.rest)?;
-        Some(Command::AnyOf(selected, other))
-    } else {
-        None
     }
 }
 
@@ -222,9 +109,54 @@ fn pair_and_set(text: &[u8]) -> Option<(VariableId, VariableId, VersionSetId)>
     }
 }
 
+/// `constrains V V SET`
+#[inline(always)]
+pub(crate) fn constrains<N, S, A: Allocator>(text: &[u8]) -> Option<Command<N, S, A>>
+    ensures { option_map command_of result ≡ constrains_command (words text.now) }
+{
+    let (parent, forbidden, set) = pair_and_set(text)?;
+    Some(Command::Constrains(parent, forbidden, set))
+}
+
+/// `constrains-excluded V V SET`
+#[inline(always)]
+pub(crate) fn constrains_excluded<N, S, A: Allocator>(text: &[u8]) -> Option<Command<N, S, A>>
+    ensures { option_map command_of result ≡ constrains_excluded_command (words text.now) }
+{
+    let (candidate, aux, set) = pair_and_set(text)?;
+    Some(Command::ConstrainsExcluded(candidate, aux, set))
+}
+
+/// `constrains-parent V V SET`
+#[inline(always)]
+pub(crate) fn constrains_parent<N, S, A: Allocator>(text: &[u8]) -> Option<Command<N, S, A>>
+    ensures { option_map command_of result ≡ constrains_parent_command (words text.now) }
+{
+    let (parent, aux, set) = pair_and_set(text)?;
+    Some(Command::ConstrainsParent(parent, aux, set))
+}
+
+/// `lock V V`
+#[inline(always)]
+pub(crate) fn lock<N, S, A: Allocator>(text: &[u8]) -> Option<Command<N, S, A>>
+    ensures { option_map command_of result ≡ lock_command (words text.now) }
+{
+    let (locked, other) = pair(text)?;
+    Some(Command::Lock(locked, other))
+}
+
+/// `any-of V V`
+#[inline(always)]
+pub(crate) fn any_of<N, S, A: Allocator>(text: &[u8]) -> Option<Command<N, S, A>>
+    ensures { option_map command_of result ≡ any_of_command (words text.now) }
+{
+    let (selected, other) = pair(text)?;
+    Some(Command::AnyOf(selected, other))
+}
+
 /// A command that is said without words.
 #[inline(always)]
-fn bare_command<N: Copy, S: Copy, A: Allocator>(
+pub(crate) fn bare_command<N: Copy, S: Copy, A: Allocator>(
     text: &[u8],
     command: Command<N, S, A>,
 ) -> Option<Command<N, S, A>>
@@ -238,7 +170,9 @@ fn bare_command<N: Copy, S: Copy, A: Allocator>(
 
 /// `variable SOLVABLE`
 #[inline(always)]
-fn variable<N: DenseIndex, S: DenseIndex, A: Allocator>(text: &[u8]) -> Option<Command<N, S, A>>
+pub(crate) fn variable<N: DenseIndex, S: DenseIndex, A: Allocator>(
+    text: &[u8],
+) -> Option<Command<N, S, A>>
     ensures { option_map command_of result
         ≡ variable_command (ids_at N.limit N.id_at S.limit S.id_at) (words text.now) }
 {
@@ -248,7 +182,9 @@ fn variable<N: DenseIndex, S: DenseIndex, A: Allocator>(text: &[u8]) -> Option<C
 
 /// `helper any-of NAMEID`, `helper violation SET` or `helper gate R`
 #[inline(always)]
-fn helper<N: DenseIndex, S: DenseIndex, A: Allocator>(text: &[u8]) -> Option<Command<N, S, A>>
+pub(crate) fn helper<N: DenseIndex, S: DenseIndex, A: Allocator>(
+    text: &[u8],
+) -> Option<Command<N, S, A>>
     ensures { option_map command_of result
         ≡ helper_command (ids_at N.limit N.id_at S.limit S.id_at) (words text.now) }
 {
@@ -277,7 +213,7 @@ fn helper_origin<N: DenseIndex>(kind: &[u8], word: &[u8]) -> Option<HelperOrigin
 
 /// `load R`
 #[inline(always)]
-fn load<N, S, A: Allocator>(text: &[u8]) -> Option<Command<N, S, A>>
+pub(crate) fn load<N, S, A: Allocator>(text: &[u8]) -> Option<Command<N, S, A>>
     ensures { option_map command_of result ≡ load_command (words text.now) }
 {
     let (mark, required, text) = next_marked(text)?;
@@ -289,7 +225,7 @@ fn load<N, S, A: Allocator>(text: &[u8]) -> Option<Command<N, S, A>>
 
 /// `requires PARENT R` or `requires PARENT R DISJUNCTION`
 #[inline(always)]
-fn requires_clause<N, S, A: Allocator>(text: &[u8]) -> Option<Command<N, S, A>>
+pub(crate) fn requires_clause<N, S, A: Allocator>(text: &[u8]) -> Option<Command<N, S, A>>
     ensures { option_map command_of result ≡ requires_command (words text.now) }
 {
     let (parent, text) = next_number(text)?;
@@ -309,7 +245,7 @@ fn requires_clause<N, S, A: Allocator>(text: &[u8]) -> Option<Command<N, S, A>>
 
 /// `exclude V STRING`
 #[inline(always)]
-fn exclude<N, S, A: Allocator>(text: &[u8]) -> Option<Command<N, S, A>>
+pub(crate) fn exclude<N, S, A: Allocator>(text: &[u8]) -> Option<Command<N, S, A>>
     ensures { option_map command_of result ≡ exclude_command (words text.now) }
 {
     let (variable, text) = next_number(text)?;
@@ -322,7 +258,9 @@ fn exclude<N, S, A: Allocator>(text: &[u8]) -> Option<Command<N, S, A>>
 
 /// `at-most-once NAMEID V`
 #[inline(always)]
-fn at_most_once<N: DenseIndex, S: DenseIndex, A: Allocator>(text: &[u8]) -> Option<Command<N, S, A>>
+pub(crate) fn at_most_once<N: DenseIndex, S: DenseIndex, A: Allocator>(
+    text: &[u8],
+) -> Option<Command<N, S, A>>
     ensures { option_map command_of result
         ≡ at_most_once_command (ids_at N.limit N.id_at S.limit S.id_at) (words text.now) }
 {
@@ -336,7 +274,7 @@ fn at_most_once<N: DenseIndex, S: DenseIndex, A: Allocator>(text: &[u8]) -> Opti
 
 /// `assign V BOOL CLAUSE LEVEL`
 #[inline(always)]
-fn assign<N, S, A: Allocator>(text: &[u8]) -> Option<Command<N, S, A>>
+pub(crate) fn assign<N, S, A: Allocator>(text: &[u8]) -> Option<Command<N, S, A>>
     ensures { option_map command_of result ≡ assign_command (words text.now) }
 {
     let (variable, text) = next_number(text)?;
@@ -355,7 +293,7 @@ fn assign<N, S, A: Allocator>(text: &[u8]) -> Option<Command<N, S, A>>
 
 /// `undo-until LEVEL`
 #[inline(always)]
-fn undo_until<N, S, A: Allocator>(text: &[u8]) -> Option<Command<N, S, A>>
+pub(crate) fn undo_until<N, S, A: Allocator>(text: &[u8]) -> Option<Command<N, S, A>>
     ensures { option_map command_of result ≡ undo_command (words text.now) }
 {
     let level = only_id(text)?;
@@ -364,7 +302,9 @@ fn undo_until<N, S, A: Allocator>(text: &[u8]) -> Option<Command<N, S, A>>
 
 /// `bump NAMEID AMOUNT`
 #[inline(always)]
-fn bump<N: DenseIndex, S: DenseIndex, A: Allocator>(text: &[u8]) -> Option<Command<N, S, A>>
+pub(crate) fn bump<N: DenseIndex, S: DenseIndex, A: Allocator>(
+    text: &[u8],
+) -> Option<Command<N, S, A>>
     ensures { option_map command_of result
         ≡ bump_command (ids_at N.limit N.id_at S.limit S.id_at) (words text.now) }
 {
@@ -378,7 +318,7 @@ fn bump<N: DenseIndex, S: DenseIndex, A: Allocator>(text: &[u8]) -> Option<Comma
 
 /// `decay N D`
 #[inline(always)]
-fn decay<N, S, A: Allocator>(text: &[u8]) -> Option<Command<N, S, A>>
+pub(crate) fn decay<N, S, A: Allocator>(text: &[u8]) -> Option<Command<N, S, A>>
     ensures { option_map command_of result ≡ decay_command (words text.now) }
 {
     let (numerator, text) = next_number(text)?;
@@ -391,7 +331,7 @@ fn decay<N, S, A: Allocator>(text: &[u8]) -> Option<Command<N, S, A>>
 
 /// `standard BOOL`
 #[inline(always)]
-fn standard<N, S, A: Allocator>(text: &[u8]) -> Option<Command<N, S, A>>
+pub(crate) fn standard<N, S, A: Allocator>(text: &[u8]) -> Option<Command<N, S, A>>
     ensures { option_map command_of result ≡ standard_command (words text.now) }
 {
     let standard = truth(only_word(text)?)?;
@@ -400,7 +340,7 @@ fn standard<N, S, A: Allocator>(text: &[u8]) -> Option<Command<N, S, A>>
 
 /// `rewatch CLAUSE LIT LIT`
 #[inline(always)]
-fn rewatch<N, S, A: Allocator>(text: &[u8]) -> Option<Command<N, S, A>>
+pub(crate) fn rewatch<N, S, A: Allocator>(text: &[u8]) -> Option<Command<N, S, A>>
     ensures { option_map command_of result ≡ rewatch_command (words text.now) }
 {
     let (clause, text) = next_number(text)?;
@@ -417,7 +357,7 @@ fn rewatch<N, S, A: Allocator>(text: &[u8]) -> Option<Command<N, S, A>>
 
 /// `watchers LIT`
 #[inline(always)]
-fn watchers<N, S, A: Allocator>(text: &[u8]) -> Option<Command<N, S, A>>
+pub(crate) fn watchers<N, S, A: Allocator>(text: &[u8]) -> Option<Command<N, S, A>>
     ensures { option_map command_of result ≡ watchers_command (words text.now) }
 {
     let (sign, variable, text) = next_marked(text)?;
@@ -429,7 +369,7 @@ fn watchers<N, S, A: Allocator>(text: &[u8]) -> Option<Command<N, S, A>>
 
 /// `saturate LEVEL`
 #[inline(always)]
-fn saturate<N, S, A: Allocator>(text: &[u8]) -> Option<Command<N, S, A>>
+pub(crate) fn saturate<N, S, A: Allocator>(text: &[u8]) -> Option<Command<N, S, A>>
     ensures { option_map command_of result ≡ saturate_command (words text.now) }
 {
     let level = only_id(text)?;

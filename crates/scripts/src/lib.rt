@@ -6,15 +6,16 @@
 //! are.
 #![tactic(auto)]
 
+mod answer_line;
 mod command_line;
 mod digit_pairs;
 mod line_text;
 mod literal_words;
+mod obeying;
 mod over_packages;
 mod reply_line;
 mod transcript;
 
-pub use command_line::command;
 pub use over_packages::OverPackages;
 pub use reply_line::push_unreadable;
 pub use script_text::{ScriptFault, status};

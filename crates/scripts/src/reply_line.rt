@@ -1,48 +1,18 @@
-//! Reply lines.
+//! The lines of replies.
 #![tactic(auto, using(crate::proofs::Beginnings::begins_more, crate::proofs::Beginnings::begins_whole))]
 
 ghost use Rattle.std.specs.Prelude.{◌≡◌, ◌++◌, ◌<◌, ◌≤◌, codes, decimal, length, map, flat_map, take};
-ghost use Rattle.resolvo_store.specs.Command.{LoadedAs, Refused, reply_of};
+ghost use Rattle.resolvo_store.specs.Command.{LoadedAs, Next as NextIs, Refused, Undone};
 ghost use Rattle.resolvo_store.specs.ReplyTexts.{field, list_text, others_text, lists_text, conflict_text};
-ghost use Rattle.resolvo_store.specs.ReplyTexts.{tracked_text, decision_text, undone_text, next_text};
-ghost use Rattle.resolvo_store.specs.ReplyTexts.{truth_text, words_text};
+ghost use Rattle.resolvo_store.specs.ReplyTexts.{decision_text, truth_text, words_text};
 ghost use Rattle.scripts.specs.Replies.{Pushes, reply_text, unreadable_text};
 
 use crate::digit_pairs::{four, pair};
 use crate::line_text::{LONGEST, put, put_field};
 use decisions::Decision;
 use resolvo_queue::QueueDecision;
-use resolvo_store::Reply;
 use std::alloc::{AllocError, Allocator};
 use typed_ids::{ClauseId, DenseIndex, StoreError, VariableId};
-
-/// Puts the line of a reply after the text.
-pub fn push_reply<A: Allocator>(text: &mut Vec<u8>, reply: &Reply<A>) -> Result<(), AllocError>
-    ensures { Pushes result text.old.items text.new.items (reply_text (reply_of reply.now)) }
-{
-    match reply {
-        Reply::Assigned => text.extend_from_slice(b"assigned\n"),
-        Reply::Already => text.extend_from_slice(b"already\n"),
-        Reply::Clash => text.extend_from_slice(b"clash\n"),
-        Reply::Done => text.extend_from_slice(b"done\n"),
-        Reply::NoDecision => text.extend_from_slice(b"no decision\n"),
-        Reply::Variable(variable) => push_line(text, b"variable ", variable.to_index()),
-        Reply::Disjunction(disjunction) => push_line(text, b"disjunction ", disjunction.to_index()),
-        Reply::Falsified(clause) => push_line(text, b"falsified ", clause.to_index()),
-        Reply::Conflict(clause) => push_line(text, b"conflict ", clause.to_index()),
-        Reply::Refused(e) => push_refused(text, *e),
-        Reply::Clause(clause, conflict) => push_clause(text, *clause, *conflict),
-        Reply::Tracked(new, clauses) => push_tracked(text, *new, *clauses),
-        Reply::Undone(last) => push_undone(text, *last),
-        Reply::Next(decision) => push_next(text, *decision),
-        Reply::Decided(decision) => push_decision(text, decision),
-        Reply::Loaded(lists) => push_loaded(text, lists),
-        Reply::Watchers(clauses) => {
-            push_watchers(text, clauses)?;
-            push_end(text)
-        }
-    }
-}
 
 /// Puts the line that tells a requirement's lists after the text.
 pub(crate) fn push_loaded<A: Allocator>(
@@ -73,7 +43,7 @@ pub fn push_unreadable(text: &mut Vec<u8>, number: u64) -> Result<(), AllocError
 
 /// The end of a line.
 #[inline(always)]
-fn push_end(text: &mut Vec<u8>) -> Result<(), AllocError>
+pub(crate) fn push_end(text: &mut Vec<u8>) -> Result<(), AllocError>
     ensures { Pushes result text.old.items text.new.items (codes "\n") }
 {
     text.push(b'\n')?;
@@ -150,7 +120,7 @@ fn push_field(text: &mut Vec<u8>, name: &[u8], number: usize) -> Result<(), Allo
 }
 
 /// A text, a number directly after it, and the end of the line.
-fn push_line(text: &mut Vec<u8>, name: &[u8], number: usize) -> Result<(), AllocError>
+pub(crate) fn push_line(text: &mut Vec<u8>, name: &[u8], number: usize) -> Result<(), AllocError>
     ensures { Pushes result text.old.items text.new.items ((name.now ++ decimal number) ++ codes "\n") }
 {
     push_field(text, name, number)?;
@@ -158,7 +128,11 @@ fn push_line(text: &mut Vec<u8>, name: &[u8], number: usize) -> Result<(), Alloc
 }
 
 /// A clause, whether it is a conflict, and the end of the line.
-fn push_clause(text: &mut Vec<u8>, clause: ClauseId, conflict: bool) -> Result<(), AllocError>
+pub(crate) fn push_clause(
+    text: &mut Vec<u8>,
+    clause: ClauseId,
+    conflict: bool,
+) -> Result<(), AllocError>
     ensures { Pushes result text.old.items text.new.items
         ((field (codes "clause ") clause ++ conflict_text conflict) ++ codes "\n") }
 {
@@ -170,19 +144,12 @@ fn push_clause(text: &mut Vec<u8>, clause: ClauseId, conflict: bool) -> Result<(
     }
 }
 
-/// Whether a variable is new, the number of clauses, and the end of the line.
-fn push_tracked(text: &mut Vec<u8>, new: bool, clauses: usize) -> Result<(), AllocError>
-    ensures { Pushes result text.old.items text.new.items (tracked_text new clauses ++ codes "\n") }
-{
-    if new {
-        push_line(text, b"tracked yes ", clauses)
-    } else {
-        push_line(text, b"tracked no ", clauses)
-    }
-}
-
-fn push_undone(text: &mut Vec<u8>, last: Option<(Decision, u32)>) -> Result<(), AllocError>
-    ensures { Pushes result text.old.items text.new.items (undone_text last ++ codes "\n") }
+/// Puts the line that tells the assignment that was taken back last, if one is named.
+pub(crate) fn push_undone(
+    text: &mut Vec<u8>,
+    last: Option<(Decision, u32)>,
+) -> Result<(), AllocError>
+    ensures { Pushes result text.old.items text.new.items (reply_text (Undone last)) }
 {
     let Some((decision, level)) = last else {
         return text.extend_from_slice(b"undone\n");
@@ -193,8 +160,9 @@ fn push_undone(text: &mut Vec<u8>, last: Option<(Decision, u32)>) -> Result<(), 
     push_ended(text, &mut line, at)
 }
 
-fn push_next(text: &mut Vec<u8>, decision: Option<Decision>) -> Result<(), AllocError>
-    ensures { Pushes result text.old.items text.new.items (next_text decision ++ codes "\n") }
+/// Puts the line that tells the assignment to propagate, or that there is none.
+pub(crate) fn push_next(text: &mut Vec<u8>, decision: Option<Decision>) -> Result<(), AllocError>
+    ensures { Pushes result text.old.items text.new.items (reply_text (NextIs decision)) }
 {
     let Some(decision) = decision else {
         return text.extend_from_slice(b"next none\n");
@@ -222,7 +190,7 @@ fn put_assignment(line: &mut [u8; LONGEST], name: &[u8], decision: Decision) -> 
     }
 }
 
-fn push_decision(text: &mut Vec<u8>, decision: &QueueDecision) -> Result<(), AllocError>
+pub(crate) fn push_decision(text: &mut Vec<u8>, decision: &QueueDecision) -> Result<(), AllocError>
     ensures { Pushes result text.old.items text.new.items (decision_text decision.now ++ codes "\n") }
 {
     let score = decision.package_activity as usize;
@@ -246,7 +214,7 @@ fn push_ended(text: &mut Vec<u8>, line: &mut [u8; LONGEST], at: usize) -> Result
 }
 
 /// `watchers`, and each clause after a blank, or `-` for none.
-fn push_watchers(text: &mut Vec<u8>, clauses: &[ClauseId]) -> Result<(), AllocError>
+pub(crate) fn push_watchers(text: &mut Vec<u8>, clauses: &[ClauseId]) -> Result<(), AllocError>
     ensures { Pushes result text.old.items text.new.items (codes "watchers" ++ words_text clauses.now) }
 {
     text.extend_from_slice(b"watchers")?;

@@ -4,20 +4,16 @@ ghost use Rattle.script_text.specs.declared.fault.ScriptFault.TheVariants.{Devic
 ghost use Rattle.script_text.specs.Lines.{lines as lines_of};
 ghost use Rattle.std.specs.Io.{StartsWith};
 ghost use Rattle.script_text.specs.Output.{Writes};
-ghost use Rattle.script_text.specs.Statements.{says};
-ghost use Rattle.script_text.specs.Words.{words};
-ghost use Rattle.scripts.specs.Commands.{ids_at, command_meant, command_said};
-ghost use Rattle.resolvo_store.specs.Command.{Load, command_of};
-ghost use Rattle.script_text.specs.declared.statement.Line.TheVariants.{Says};
+ghost use Rattle.scripts.specs.Commands.{ids_at, command_meant};
 ghost use Rattle.scripts.specs.Ends.{HandsAnswer, named_text, TakesBeginning, WriterEnds, DevicesEnd};
 ghost use Rattle.scripts.specs.Scripts.{ScriptAnswered, ScriptLinesAnswered, faulty_text};
 ghost use Rattle.scripts.specs.Transcript.{ObeysLine, Answered, HasCommand, IfRead};
 
-use crate::command_line::command;
+use crate::obeying::obey_words;
 use crate::over_packages::OverPackages;
-use crate::reply_line::{push_loaded, push_refused, push_reply, push_unreadable};
-use providers::{DependencyProvider, Requirement};
-use resolvo_store::{Abstract, ClauseStore, Command};
+use crate::reply_line::push_unreadable;
+use providers::DependencyProvider;
+use resolvo_store::{Abstract, ClauseStore};
 use script_packages::{Packages, read_catalogue};
 use script_text::{
     Line, LineFault, ScriptFault, Sink, Source, Statement, next_statement, read_whole, write_much,
@@ -162,73 +158,5 @@ pub fn obey_line<D: DependencyProvider<NameId: DenseIndex, SolvableId: DenseInde
         Line::Skipped => Ok(()),
         Line::Unreadable => Err(LineFault::Unreadable),
         Line::Says(said) => obey_words(alloc, store, said.keyword, said.rest, waiting),
-    }
-}
-
-/// Obeys the command that a first word and those after it give, and puts the line of the reply after what waits. So a
-/// line that is skipped costs no call.
-#[inline(never)]
-fn obey_words<D: DependencyProvider<NameId: DenseIndex, SolvableId: DenseIndex> + Drop>(
-    alloc: D::Alloc,
-    store: &mut ClauseStore<D>,
-    keyword: &[u8],
-    rest: &[u8],
-    waiting: &mut Vec<u8>,
-) -> Result<(), LineFault>
-    ensures { ObeysLine (⟦<D as Abstract>⟧.store store.old)
-        (says (command_said (ids_at D.NameId.limit D.NameId.id_at D.SolvableId.limit D.SolvableId.id_at))
-        (command_said (ids_at D.NameId.limit D.NameId.id_at D.SolvableId.limit D.SolvableId.id_at) keyword.now
-        (words rest.now)))
-        waiting.old.items result waiting.new.items (⟦<D as Abstract>⟧.store store.new) }
-{
-    match command(alloc, Statement { keyword, rest }) {
-        Ok(command) => obey(store, &command, waiting),
-        Err(fault) => Err(fault),
-    }
-}
-
-/// Obeys a command, and puts the line of the reply after what waits.
-#[inline(always)]
-fn obey<D: DependencyProvider + Drop>(
-    store: &mut ClauseStore<D>,
-    command: &Command<D::NameId, D::SolvableId, D::Alloc>,
-    waiting: &mut Vec<u8>,
-) -> Result<(), LineFault>
-    ensures { ObeysLine (⟦<D as Abstract>⟧.store store.old) (Says (command_of command.now))
-        waiting.old.items result waiting.new.items (⟦<D as Abstract>⟧.store store.new) }
-{
-    if let Command::Load(requirement) = command {
-        return load(store, *requirement, waiting);
-    }
-    let reply = store.step(command);
-    push_reply(waiting, &reply)?;
-    Ok(())
-}
-
-/// Loads a requirement, and puts the line of the reply after what waits, from where its lists lie, with no copy. It is
-/// apart from `obey` so that no other command pays for it.
-#[inline(never)]
-fn load<D: DependencyProvider + Drop>(
-    store: &mut ClauseStore<D>,
-    requirement: Requirement,
-    waiting: &mut Vec<u8>,
-) -> Result<(), LineFault>
-    ensures { ObeysLine (⟦<D as Abstract>⟧.store store.old) (Says (Load requirement))
-        waiting.old.items result waiting.new.items (⟦<D as Abstract>⟧.store store.new) }
-{
-    if let Some(lists) = store.lists(requirement) {
-        push_loaded(waiting, lists)?;
-        return Ok(());
-    }
-    if let Err(refusal) = store.load(requirement) {
-        push_refused(waiting, refusal)?;
-        return Ok(());
-    }
-    match store.lists(requirement) {
-        Some(lists) => {
-            push_loaded(waiting, lists)?;
-            Ok(())
-        }
-        None => unreachable!(),
     }
 }
