@@ -13,7 +13,7 @@ use Rattle.script_text.specs.declared.statement.Statement.{Statement}
 use Rattle.script_text.specs.declared.statement.Line.TheVariants.{Skipped, Unreadable, Says}
 use Rattle.script_text.specs.Output.{HandsOn, TakesSome}
 use Rattle.script_text.specs.Status.{fault_at}
-use Rattle.script_text.specs.Statements.{MeansWords, says}
+use Rattle.script_text.specs.Statements.{MeansWords}
 use Rattle.script_text.proofs.Handing.{HandsOn-trans, HandsOn-wait, HandsOn-on, TakesSome-after}
 use Rattle.script_text.proofs.Statements.{meant_by}
 use Rattle.scripts.specs.Commands.{Ids, command_line_of, command_meant, command_said}

@@ -24,7 +24,7 @@ pub(crate) fn push_variable(
     ensures { Pushes result text.old.items text.new.items (reply_text (replied VariableIs answer)) }
 {
     match answer {
-        Ok(variable) => push_line(text, b"variable ", variable.to_index()),
+        Ok(variable) => push_line(text, b"variable", variable.to_index()),
         Err(e) => push_refused(text, e),
     }
 }
@@ -38,7 +38,7 @@ pub(crate) fn push_disjunction(
     ensures { Pushes result text.old.items text.new.items (reply_text (replied DisjunctionIs answer)) }
 {
     match answer {
-        Ok(disjunction) => push_line(text, b"disjunction ", disjunction.to_index()),
+        Ok(disjunction) => push_line(text, b"disjunction", disjunction.to_index()),
         Err(e) => push_refused(text, e),
     }
 }
@@ -71,8 +71,8 @@ pub(crate) fn push_tracked(
     ensures { Pushes result text.old.items text.new.items (reply_text (replied tracked answer)) }
 {
     match answer {
-        Ok(answer) if answer.is_new => push_line(text, b"tracked yes ", answer.clauses),
-        Ok(answer) => push_line(text, b"tracked no ", answer.clauses),
+        Ok(answer) if answer.is_new => push_line(text, b"tracked yes", answer.clauses),
+        Ok(answer) => push_line(text, b"tracked no", answer.clauses),
         Err(e) => push_refused(text, e),
     }
 }
@@ -155,7 +155,7 @@ pub(crate) fn push_saturated(
     ensures { Pushes result text.old.items text.new.items (reply_text (replied conflict answer)) }
 {
     match answer {
-        Ok(Some(clause)) => push_line(text, b"conflict ", clause.to_index()),
+        Ok(Some(clause)) => push_line(text, b"conflict", clause.to_index()),
         Ok(None) => text.extend_from_slice(b"done\n"),
         Err(e) => push_refused(text, e),
     }
@@ -182,6 +182,6 @@ fn push_found(text: &mut Vec<u8>, found: Next) -> Result<(), AllocError>
     match found {
         Next::Decided(decision) => push_decision(text, &decision),
         Next::Done => text.extend_from_slice(b"no decision\n"),
-        Next::Falsified(clause) => push_line(text, b"falsified ", clause.to_index()),
+        Next::Falsified(clause) => push_line(text, b"falsified", clause.to_index()),
     }
 }

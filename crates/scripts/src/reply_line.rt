@@ -1,7 +1,7 @@
 //! The lines of replies.
 #![tactic(auto, using(crate::proofs::Beginnings::begins_more, crate::proofs::Beginnings::begins_whole))]
 
-ghost use Rattle.std.specs.Prelude.{◌≡◌, ◌++◌, ◌<◌, ◌≤◌, codes, decimal, length, map, flat_map, take};
+ghost use Rattle.std.specs.Prelude.{◌≡◌, ◌++◌, ◌∷◌, ◌<◌, ◌≤◌, codes, decimal, length, map, flat_map, take};
 ghost use Rattle.resolvo_store.specs.Command.{LoadedAs, Next as NextIs, Refused, Undone};
 ghost use Rattle.resolvo_store.specs.ReplyTexts.{field, list_text, others_text, lists_text, conflict_text};
 ghost use Rattle.resolvo_store.specs.ReplyTexts.{decision_text, truth_text, words_text};
@@ -29,15 +29,15 @@ pub(crate) fn push_loaded<A: Allocator>(
 pub(crate) fn push_refused(text: &mut Vec<u8>, refusal: StoreError) -> Result<(), AllocError>
     ensures { Pushes result text.old.items text.new.items (reply_text (Refused refusal)) }
 {
-    push_line(text, b"refused ", refusal.code() as usize)
+    push_line(text, b"refused", refusal.code() as usize)
 }
 
 /// Puts the line that names an unreadable line after the text.
 pub fn push_unreadable(text: &mut Vec<u8>, number: u64) -> Result<(), AllocError>
     ensures { Pushes result text.old.items text.new.items (unreadable_text number) }
 {
-    text.extend_from_slice(b"line ")?;
-    push_number(text, number)?;
+    text.extend_from_slice(b"line")?;
+    push_behind(text, b' ', number)?;
     text.extend_from_slice(b" unreadable\n")
 }
 
@@ -50,17 +50,18 @@ pub(crate) fn push_end(text: &mut Vec<u8>) -> Result<(), AllocError>
     Ok(())
 }
 
-/// A number; one of up to five digits, as most are, is put with no call.
+/// A byte, and a number directly after it; one of up to five digits, as most are, is put with no call.
 #[inline(always)]
-fn push_number(text: &mut Vec<u8>, number: u64) -> Result<(), AllocError>
-    ensures { Pushes result text.old.items text.new.items (decimal number) }
+fn push_behind(text: &mut Vec<u8>, byte: u8, number: u64) -> Result<(), AllocError>
+    ensures { Pushes result text.old.items text.new.items (byte ∷ decimal number) }
 {
     if number < 10 {
+        text.push(byte)?;
         push_digit(text, number)
     } else if number < 100_000 {
-        push_few_digits(text, number)
+        push_few_behind(text, byte, number)
     } else {
-        push_digits(text, number)
+        push_many_behind(text, byte, number)
     }
 }
 
@@ -75,55 +76,28 @@ fn push_digit(text: &mut Vec<u8>, number: u64) -> Result<(), AllocError>
     Ok(())
 }
 
-/// A number of more digits than one.
+/// A byte, and a number of more digits than one.
 #[inline(never)]
-fn push_digits(text: &mut Vec<u8>, number: u64) -> Result<(), AllocError>
+fn push_many_behind(text: &mut Vec<u8>, byte: u8, number: u64) -> Result<(), AllocError>
     requires { 10 ≤ number }
-    ensures { Pushes result text.old.items text.new.items (decimal number) }
+    ensures { Pushes result text.old.items text.new.items (byte ∷ decimal number) }
 {
     if number < 100_000 {
-        push_few_digits(text, number)
+        push_few_behind(text, byte, number)
+    } else if number < 100_000_000 {
+        push_more_behind(text, byte, number)
     } else {
-        push_digits(text, number / 10_000)?;
+        push_many_behind(text, byte, number / 10_000)?;
         text.extend_from_slice(&four(number % 10_000))
     }
 }
 
-/// A number of two to five digits, which are put at once.
-#[inline(always)]
-fn push_few_digits(text: &mut Vec<u8>, number: u64) -> Result<(), AllocError>
-    requires more { 10 ≤ number }
-    requires few { number < 100000 }
-    ensures { Pushes result text.old.items text.new.items (decimal number) }
-{
-    if number < 100 {
-        text.extend_from_slice(&pair(number))
-    } else if number < 1000 {
-        let [tens, ones] = pair(number % 100);
-        text.extend_from_slice(&[b'0' + (number / 100) as u8, tens, ones])
-    } else if number < 10_000 {
-        text.extend_from_slice(&four(number))
-    } else {
-        let [thousands, hundreds, tens, ones] = four(number % 10_000);
-        let first = b'0' + (number / 10_000) as u8;
-        text.extend_from_slice(&[first, thousands, hundreds, tens, ones])
-    }
-}
-
-/// A text, and a number directly after it.
-#[inline(always)]
-fn push_field(text: &mut Vec<u8>, name: &[u8], number: usize) -> Result<(), AllocError>
-    ensures { Pushes result text.old.items text.new.items (name.now ++ decimal number) }
+/// A text, a number after a blank, and the end of the line.
+pub(crate) fn push_line(text: &mut Vec<u8>, name: &[u8], number: usize) -> Result<(), AllocError>
+    ensures { Pushes result text.old.items text.new.items ((name.now ++ (32 ∷ decimal number)) ++ codes "\n") }
 {
     text.extend_from_slice(name)?;
-    push_number(text, number as u64)
-}
-
-/// A text, a number directly after it, and the end of the line.
-pub(crate) fn push_line(text: &mut Vec<u8>, name: &[u8], number: usize) -> Result<(), AllocError>
-    ensures { Pushes result text.old.items text.new.items ((name.now ++ decimal number) ++ codes "\n") }
-{
-    push_field(text, name, number)?;
+    push_behind(text, b' ', number as u64)?;
     push_end(text)
 }
 
@@ -136,7 +110,8 @@ pub(crate) fn push_clause(
     ensures { Pushes result text.old.items text.new.items
         ((field (codes "clause ") clause ++ conflict_text conflict) ++ codes "\n") }
 {
-    push_field(text, b"clause ", clause.to_index())?;
+    text.extend_from_slice(b"clause")?;
+    push_behind(text, b' ', clause.to_index() as u64)?;
     if conflict {
         text.extend_from_slice(b" conflict\n")
     } else {
@@ -229,7 +204,7 @@ fn push_clauses(text: &mut Vec<u8>, clauses: &[ClauseId]) -> Result<(), AllocErr
     ensures { Pushes result text.old.items text.new.items (flat_map (field (codes " ")) clauses.now) }
 {
     for clause in clauses {
-        push_field(text, b" ", clause.to_index())?;
+        push_behind(text, b' ', clause.to_index() as u64)?;
     }
     Ok(())
 }
@@ -249,72 +224,72 @@ fn push_lists<A: Allocator>(
     Ok(())
 }
 
-/// A blank, and the word of a list.
+/// A blank, and the word of a list: its variables, joined by commas, or `-` for none.
 fn push_word(text: &mut Vec<u8>, list: &[VariableId]) -> Result<(), AllocError>
     ensures { Pushes result text.old.items text.new.items (codes " " ++ list_text list.now) }
 {
-    text.extend_from_slice(b" ")?;
-    push_list(text, list)
-}
-
-/// The variables of a list, joined by commas, or `-` for none.
-fn push_list(text: &mut Vec<u8>, list: &[VariableId]) -> Result<(), AllocError>
-    ensures { Pushes result text.old.items text.new.items (list_text list.now) }
-{
     match list {
-        [] => text.extend_from_slice(b"-"),
+        [] => text.extend_from_slice(b" -"),
         [first, others @ ..] => {
-            push_number(text, first.to_index() as u64)?;
+            push_behind(text, b' ', first.to_index() as u64)?;
             push_others(text, others)
         }
     }
 }
 
-/// Each variable after a comma. Most of what a load writes is here, so few digits are put with no call.
+/// Each variable after a comma. Most of what a load writes is here.
 fn push_others(text: &mut Vec<u8>, others: &[VariableId]) -> Result<(), AllocError>
     ensures { Pushes result text.old.items text.new.items (others_text others.now) }
 {
     for variable in others {
-        push_member(text, variable.to_index() as u64)?;
+        push_behind(text, b',', variable.to_index() as u64)?;
     }
     Ok(())
 }
 
-/// A comma, and a number; one of up to five digits is put with the comma at once.
+/// A byte, and a number of two to five digits, which are put at once.
 #[inline(always)]
-fn push_member(text: &mut Vec<u8>, number: u64) -> Result<(), AllocError>
-    ensures { Pushes result text.old.items text.new.items (codes "," ++ decimal number) }
-{
-    if number < 10 {
-        text.push(b',')?;
-        push_digit(text, number)
-    } else if number < 100_000 {
-        push_few_behind_comma(text, number)
-    } else {
-        text.push(b',')?;
-        push_digits(text, number)
-    }
-}
-
-/// A comma, and a number of two to five digits.
-#[inline(always)]
-fn push_few_behind_comma(text: &mut Vec<u8>, number: u64) -> Result<(), AllocError>
+fn push_few_behind(text: &mut Vec<u8>, byte: u8, number: u64) -> Result<(), AllocError>
     requires more { 10 ≤ number }
     requires few { number < 100000 }
-    ensures { Pushes result text.old.items text.new.items (codes "," ++ decimal number) }
+    ensures { Pushes result text.old.items text.new.items (byte ∷ decimal number) }
 {
     if number < 100 {
         let [tens, ones] = pair(number);
-        text.extend_from_slice(&[b',', tens, ones])
+        text.extend_from_slice(&[byte, tens, ones])
     } else if number < 1000 {
         let [tens, ones] = pair(number % 100);
-        text.extend_from_slice(&[b',', b'0' + (number / 100) as u8, tens, ones])
+        text.extend_from_slice(&[byte, b'0' + (number / 100) as u8, tens, ones])
     } else if number < 10_000 {
         let [thousands, hundreds, tens, ones] = four(number);
-        text.extend_from_slice(&[b',', thousands, hundreds, tens, ones])
+        text.extend_from_slice(&[byte, thousands, hundreds, tens, ones])
     } else {
         let [thousands, hundreds, tens, ones] = four(number % 10_000);
         let first = b'0' + (number / 10_000) as u8;
-        text.extend_from_slice(&[b',', first, thousands, hundreds, tens, ones])
+        text.extend_from_slice(&[byte, first, thousands, hundreds, tens, ones])
+    }
+}
+
+/// A byte, and a number of six to eight digits, which are put at once.
+#[inline(always)]
+fn push_more_behind(text: &mut Vec<u8>, byte: u8, number: u64) -> Result<(), AllocError>
+    requires more { 100000 ≤ number }
+    requires few { number < 100000000 }
+    ensures { Pushes result text.old.items text.new.items (byte ∷ decimal number) }
+{
+    let front = number / 10_000;
+    let [thousands, hundreds, tens, ones] = four(number % 10_000);
+    if front < 100 {
+        let [first, second] = pair(front);
+        text.extend_from_slice(&[byte, first, second, thousands, hundreds, tens, ones])
+    } else if front < 1000 {
+        let first = b'0' + (front / 100) as u8;
+        let [second, third] = pair(front % 100);
+        text.extend_from_slice(&[byte, first, second, third, thousands, hundreds, tens, ones])
+    } else {
+        let [first, second, third, fourth] = four(front);
+        text.extend_from_slice(&[
+            byte, first, second, third, fourth, thousands, hundreds, tens, ones,
+        ])
     }
 }
