@@ -154,7 +154,7 @@ module _ {N S : Type 0} (ids : Ids N S) where
           → (w'' ≡ w') ⊎ ((text lost : List ℕ) × (w' ++ text ≡ w'' ++ lost) × LineLast said text None)
       refused_line Skipped h = absurd h
       refused_line Unreadable h = absurd h
-      refused_line (Says c) (inl same) = inl same
+      refused_line (Says c) (inl same) = inl same.0
       refused_line (Says c) (inr h) =
           inr (
             reply_text h.0,

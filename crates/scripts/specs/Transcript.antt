@@ -27,11 +27,12 @@ BeginsCommand Unreadable after = ⊥
 BeginsCommand (Says c) after = ⊤
 
 module _ {N S : Type 0} where
-  -- memory was refused for the command that a line says, and the text stays; or for the reply's line, of which a
-  -- beginning is put after the text
+  -- memory was refused for the command that a line says, and the text and the store stay; or for the reply's line, of
+  -- which a beginning is put after the text
   abbrev pub RefusesLine : Store N S → Line (Command N S) → List ℕ → List ℕ → Store N S → Type 0
   RefusesLine old (Says c) text text' new =
-      (text' ≡ text) ⊎ ((reply : Reply) × Step old c reply new × StartsWith (text ++ reply_text reply) text')
+      ((text' ≡ text) × (new ≡ old))
+      ⊎ ((reply : Reply) × Step old c reply new × StartsWith (text ++ reply_text reply) text')
   RefusesLine old _ text text' new = ⊥
 
   -- a line that says this is obeyed, and a text grows by the reply's line; or the line is unreadable; or memory was
@@ -40,7 +41,7 @@ module _ {N S : Type 0} where
       List ℕ → Store N S
       → Type 0
   ObeysLine old said text (Err OfLine.Memory) text' new = RefusesLine old said text text' new
-  ObeysLine old said text (Err OfLine.Unreadable) text' new = (said ≡ Unreadable) × (text' ≡ text)
+  ObeysLine old said text (Err OfLine.Unreadable) text' new = (said ≡ Unreadable) × (text' ≡ text) × (new ≡ old)
   ObeysLine old Skipped text (Ok _) text' new = (text' ≡ text) × (new ≡ old)
   ObeysLine old Unreadable text (Ok _) text' new = ⊥
   ObeysLine old (Says c) text (Ok _) text' new = (reply : Reply) × Step old c reply new ×
